@@ -1,0 +1,29 @@
+-- What a call hands back: a value, or the number of the refusal due first (01, "What a refused call hands back").
+--
+--   Outcome A          == given a, or refused n with document 01's number n
+--   numberOf r         == the number of the refusal r
+--   refuseIf b n rest  == refused n where the test b holds, else rest: a row of these is a row of checks in their order
+use Prim.Native.Nat.{ℕ}
+use mathlib.Core.Bool.{Bool, true, false}
+use Rattle.answers.specs.declared.Refusal.{Refusal}
+use Rattle.answers.specs.declared.Refusal.the-variants.{TooLong, BadLine, OutsideBox, TooMany, NoPoint, BadSheet, BadRecord, NoRoom, OddLength, NoGlyph}
+
+pub data Outcome (A : Type 0) : Type 0 where
+  given : A → Outcome A
+  refused : ℕ → Outcome A
+
+abbrev pub numberOf : Refusal → ℕ
+numberOf TooLong = 1
+numberOf BadLine = 2
+numberOf OutsideBox = 3
+numberOf TooMany = 4
+numberOf NoPoint = 5
+numberOf BadSheet = 6
+numberOf BadRecord = 7
+numberOf NoRoom = 8
+numberOf OddLength = 9
+numberOf NoGlyph = 10
+
+abbrev pub refuseIf : {A : Type 0} → Bool → ℕ → Outcome A → Outcome A
+refuseIf true n rest = refused n
+refuseIf false n rest = rest

@@ -1,0 +1,44 @@
+// Refusals: why a call turns its input down (01, "What a refused call hands back").
+ghost use mathlib.Core.Path.{_≡_};
+ghost use Rattle.answers.specs.Outcome.{numberOf};
+
+pub enum Refusal {
+    // A description or sheet over 65,535 bytes.
+    TooLong,
+    // A line that is neither blank nor a point.
+    BadLine,
+    // A point outside the em box.
+    OutsideBox,
+    // More than 4,096 points.
+    TooMany,
+    // No point.
+    NoPoint,
+    // A sheet shorter than its directory, or whose pairs break the rules.
+    BadSheet,
+    // A record of another length, or not valid; a disk and support set that a valid record could not hold.
+    BadRecord,
+    // A lent list or buffer that is too short.
+    NoRoom,
+    // A point list of odd length.
+    OddLength,
+    // A glyph number not below the count.
+    NoGlyph,
+}
+
+// The number that document 01 gives the refusal.
+pub fn number(r: Refusal) -> u8
+    ensures { λ n. ⌜ n ≡ numberOf r ⌝ }
+{
+    match r {
+        Refusal::TooLong => 1,
+        Refusal::BadLine => 2,
+        Refusal::OutsideBox => 3,
+        Refusal::TooMany => 4,
+        Refusal::NoPoint => 5,
+        Refusal::BadSheet => 6,
+        Refusal::BadRecord => 7,
+        Refusal::NoRoom => 8,
+        Refusal::OddLength => 9,
+        Refusal::NoGlyph => 10,
+    }
+}

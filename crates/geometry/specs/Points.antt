@@ -1,0 +1,26 @@
+-- A point list: numbers that are x and y by turns (01: a corner list).
+--
+--   points l         == the points of the list l
+--   flat ps          == the numbers of the points ps
+--   pointAt l i      == point i of l, from 0
+--   firstPoints n l  == the first n points of l
+use Prim.Native.Nat.{ℕ, _+_, _*_}
+use mathlib.Core.List.{List, [], _∷_}
+use lib.ListN.{getD, take}
+use lib.IntN.{ℤ, pos}
+use Rattle.geometry.specs.declared.Point.{Point}
+
+unfoldable pub points : List ℤ → List Point
+points [] = []
+points (x ∷ []) = []
+points (x ∷ y ∷ l) = record { x = x; y = y } ∷ points l
+
+unfoldable pub flat : List Point → List ℤ
+flat [] = []
+flat (p ∷ ps) = p .x ∷ p .y ∷ flat ps
+
+abbrev pub pointAt : List ℤ → ℕ → Point
+pointAt l i = record { x = getD l (2 * i) (pos 0); y = getD l (2 * i + 1) (pos 0) }
+
+abbrev pub firstPoints : ℕ → List ℤ → List Point
+firstPoints n l = points (take (2 * n) l)
