@@ -1,0 +1,163 @@
+-- How large the numbers of a smallest disk can be. Assumes nothing.
+--     Box x0 y0 l p         p lies in the square with the corner (x0, y0) and side l
+--     Limits F              document 01's limits: the centre in the em box, S/E² at most 500,000
+-- Proved: a half plane that has all points has the centre (`centre-side`); so a smallest disk of points of the em box has these limits (`em-limits`);
+-- twice the area of a triangle in a square is at most the square (`turn-bound`), so E is at most twice the square (`triple-weight`).
+use mathlib.Core.Path.{_≡_, sym, _∙_, ap, subst}
+use mathlib.Core.Logic.{_⊎_, inl, inr}
+use mathlib.Core.Bool.{Bool, true, false}
+use mathlib.Core.List.{List, [], _∷_, List·Memᴰ·not-nil}
+use lib.IntN.{ℤ, pos, negsuc, negℤ, _+ℤ_, _-ℤ_, _*ℤ_}
+use lib.Signed.{_≤ℤ_, _<ℤ_, ltZ}
+use Rattle.integers.specs.Ring.{ring, poly}
+use Rattle.integers.specs.Order.{≤-of-<, ≤-or-<, nonneg, positive, clash, le, lt, sq, nn, _⊞_, _⊠_}
+use Rattle.geometry.specs.declared.Point.{Point}
+use Rattle.disks.proofs.Lifted.{Lifted, value, gap, combine, value-combine, gap-combine, gap-self, squaredRadius}
+use Rattle.disks.proofs.Minimal.{In, Feasible, StronglyMinimal}
+use Rattle.disks.proofs.Base.{positive-one}
+use Rattle.disks.proofs.Triple.{turn, turned, circle, tripleDisk}
+use Rattle.disks.proofs.Smallest.{strong-smallest, distance}
+
+-- ---- the centre lies where the points lie
+
+abbrev over : Lifted → ℤ → ℤ → ℤ → ℤ
+over F u v t = u *ℤ F .cx +ℤ v *ℤ F .cy -ℤ t *ℤ F .e
+
+-- towards the half plane u·x + v·y ≥ t
+abbrev push : ℤ → ℤ → ℤ → ℤ → Lifted
+push m u v t = record { e = pos 0; cx = negℤ (m *ℤ u); cy = negℤ (m *ℤ v); k = negℤ (pos 2 *ℤ (m *ℤ t)) }
+
+push-value : (m u v t : ℤ) (p : Point) → value (push m u v t) p ≡ pos 2 *ℤ (m *ℤ (u *ℤ p .x +ℤ v *ℤ p .y -ℤ t))
+push-value m u v t p = ring (m ∷ u ∷ v ∷ t ∷ p .x ∷ p .y ∷ []) (search poly depth 30) tt
+
+push-gap : (F : Lifted) (m u v t : ℤ) → gap F (push m u v t) ≡ negℤ (pos 2 *ℤ (F .e *ℤ (m *ℤ over F u v t)))
+push-gap F m u v t = ring (F .e ∷ F .cx ∷ F .cy ∷ F .k ∷ m ∷ u ∷ v ∷ t ∷ []) (search poly depth 30) tt
+
+push-weight : (n e : ℤ) → pos 0 <ℤ n → pos 0 <ℤ e → pos 0 <ℤ (n *ℤ e +ℤ pos 1 *ℤ pos 0)
+push-weight n e hn he = positive (n ∷ e ∷ []) (lt hn ⊠ lt he ⊞ lt hn ⊞ lt he) (search poly depth 30) tt
+
+push-holds : (n w m a t : ℤ) → pos 0 <ℤ n → w ≤ℤ pos 0 → m <ℤ pos 0 → t ≤ℤ a → (n *ℤ w +ℤ pos 1 *ℤ (pos 2 *ℤ (m *ℤ (a -ℤ t)))) ≤ℤ pos 0
+push-holds n w m a t hn hw hm ha = nonneg (n ∷ w ∷ m ∷ a ∷ t ∷ []) (le (≤-of-< hn) ⊠ le hw ⊞ nn 2 ⊠ (le (≤-of-< hm) ⊠ le ha)) (search poly depth 30) tt
+
+push-worse : {X : Type 0} (n e m : ℤ) → pos 0 <ℤ e → m <ℤ pos 0 → pos 0 ≤ℤ (n *ℤ pos 0 +ℤ pos 1 *ℤ negℤ (pos 2 *ℤ (e *ℤ (m *ℤ m)))) → X
+push-worse n e m he hm h = clash (n ∷ e ∷ m ∷ []) (h ⊞ nn 2 ⊠ (lt he ⊠ sq m) ⊞ nn 2 ⊠ (lt hm ⊠ lt hm) ⊞ nn 4 ⊠ lt hm ⊞ nn 1) (search poly depth 30) tt
+
+above : (F : Lifted) (u v t : ℤ) → pos 0 ≤ℤ over F u v t → (t *ℤ F .e) ≤ℤ (u *ℤ F .cx +ℤ v *ℤ F .cy)
+above F u v t h = nonneg (F .e ∷ F .cx ∷ F .cy ∷ u ∷ v ∷ t ∷ []) h (search poly depth 30) tt
+
+pub centre-side : {P : List Point} {F : Lifted} → StronglyMinimal P [] F → (u v t : ℤ) → pos 0 <ℤ (u *ℤ u +ℤ v *ℤ v) → ((p : Point) → In p P → t ≤ℤ (u *ℤ p .x +ℤ v *ℤ p .y))
+    → (t *ℤ F .e) ≤ℤ (u *ℤ F .cx +ℤ v *ℤ F .cy)
+centre-side {P} {F} s u v t hn h = above F u v t (go (≤-or-< (pos 0) (over F u v t)))
+  where
+    m : ℤ
+    m = over F u v t
+
+    n : ℤ
+    n = u *ℤ u +ℤ v *ℤ v
+
+    G : Lifted
+    G = combine n F (pos 1) (push m u v t)
+
+    G-gap : gap F G ≡ n *ℤ pos 0 +ℤ pos 1 *ℤ negℤ (pos 2 *ℤ (F .e *ℤ (m *ℤ m)))
+    G-gap = gap-combine F n F (pos 1) (push m u v t) ∙ ap (λ (z : ℤ). n *ℤ z +ℤ pos 1 *ℤ gap F (push m u v t)) (gap-self F) ∙ ap (λ (z : ℤ). n *ℤ pos 0 +ℤ pos 1 *ℤ z) (push-gap F m u v t)
+
+    G-value : (p : Point) → value G p ≡ n *ℤ value F p +ℤ pos 1 *ℤ (pos 2 *ℤ (m *ℤ (u *ℤ p .x +ℤ v *ℤ p .y -ℤ t)))
+    G-value p = value-combine n F (pos 1) (push m u v t) p ∙ ap (λ (z : ℤ). n *ℤ value F p +ℤ pos 1 *ℤ z) (push-value m u v t p)
+
+    G-feasible : m <ℤ pos 0 → Feasible P [] G
+    G-feasible hm = record {
+      proper = push-weight n (F .e) hn (s .feasible .proper);
+      holds = λ p i. subst (λ (z : ℤ). z ≤ℤ pos 0) (sym (G-value p)) (push-holds n (value F p) m (u *ℤ p .x +ℤ v *ℤ p .y) t hn (s .feasible .holds p i) hm (h p i));
+      rim = λ q i. absurd (List·Memᴰ·not-nil i);
+    }
+
+    go : (pos 0 ≤ℤ over F u v t) ⊎ (over F u v t <ℤ pos 0) → pos 0 ≤ℤ over F u v t
+    go (inl k) = k
+    go (inr k) = push-worse n (F .e) m (s .feasible .proper) k (subst (λ (z : ℤ). pos 0 ≤ℤ z) G-gap (s .least G (G-feasible k)))
+
+-- ---- the em box
+
+pub record Box (x0 y0 l : ℤ) (p : Point) : Type 0 where
+  pub left : x0 ≤ℤ p .x
+  pub right : p .x ≤ℤ (x0 +ℤ l)
+  pub low : y0 ≤ℤ p .y
+  pub high : p .y ≤ℤ (y0 +ℤ l)
+
+abbrev pub EmBox : Point → Type 0
+EmBox p = Box (pos 0) (negsuc 249) (pos 1000) p
+
+pub record Limits (F : Lifted) : Type 0 where
+  pub x-low : (pos 0 *ℤ F .e) ≤ℤ F .cx
+  pub x-high : F .cx ≤ℤ (pos 1000 *ℤ F .e)
+  pub y-low : (negsuc 249 *ℤ F .e) ≤ℤ F .cy
+  pub y-high : F .cy ≤ℤ (pos 750 *ℤ F .e)
+  pub radius : squaredRadius F ≤ℤ (pos 500000 *ℤ (F .e *ℤ F .e))
+
+module _ {P : List Point} {F : Lifted} (s : StronglyMinimal P [] F) (inside : (p : Point) → In p P → EmBox p) where
+  x-low : (pos 0 *ℤ F .e) ≤ℤ F .cx
+  x-low = nonneg (F .e ∷ F .cx ∷ F .cy ∷ []) (le (centre-side s (pos 1) (pos 0) (pos 0) positive-one (λ p i. nonneg (p .x ∷ p .y ∷ []) (le (inside p i .left)) (search poly depth 30) tt))) (search poly depth 60 fits 9000) tt
+
+  x-high : F .cx ≤ℤ (pos 1000 *ℤ F .e)
+  x-high = nonneg (F .e ∷ F .cx ∷ F .cy ∷ []) (le (centre-side s (negsuc 0) (pos 0) (negsuc 999) positive-one (λ p i. nonneg (p .x ∷ p .y ∷ []) (le (inside p i .right)) (search poly depth 30) tt))) (search poly depth 60 fits 9000) tt
+
+  y-low : (negsuc 249 *ℤ F .e) ≤ℤ F .cy
+  y-low = nonneg (F .e ∷ F .cx ∷ F .cy ∷ []) (le (centre-side s (pos 0) (pos 1) (negsuc 249) positive-one (λ p i. nonneg (p .x ∷ p .y ∷ []) (le (inside p i .low)) (search poly depth 30) tt))) (search poly depth 60 fits 9000) tt
+
+  y-high : F .cy ≤ℤ (pos 750 *ℤ F .e)
+  y-high = nonneg (F .e ∷ F .cx ∷ F .cy ∷ []) (le (centre-side s (pos 0) (negsuc 0) (negsuc 749) positive-one (λ p i. nonneg (p .x ∷ p .y ∷ []) (le (inside p i .high)) (search poly depth 30) tt))) (search poly depth 60 fits 9000) tt
+
+  -- the disk about the em box: centre (500, 250), squared radius 500,000
+  about : (p : Point) → In p P → (pos 1 *ℤ distance p (pos 500) (pos 250) (pos 1)) ≤ℤ (pos 500000 *ℤ (pos 1 *ℤ pos 1))
+  about p i = nonneg (p .x ∷ p .y ∷ []) (le (inside p i .left) ⊠ le (inside p i .right) ⊞ le (inside p i .low) ⊠ le (inside p i .high)) (search poly depth 30) tt
+
+  radius : squaredRadius F ≤ℤ (pos 500000 *ℤ (F .e *ℤ F .e))
+  radius = nonneg (F .e ∷ F .cx ∷ F .cy ∷ F .k ∷ []) (le (strong-smallest s .least (pos 500) (pos 250) (pos 1) (pos 500000) (pos 1) positive-one positive-one about)) (search poly depth 30) tt
+
+  pub em-limits : Limits F
+  em-limits = record { x-low = x-low; x-high = x-high; y-low = y-low; y-high = y-high; radius = radius }
+
+-- ---- twice the area of a triangle in a square
+
+cyclic : (a b c : Point) → turn a b c ≡ turn b c a
+cyclic a b c = ring (a .x ∷ a .y ∷ b .x ∷ b .y ∷ c .x ∷ c .y ∷ []) (search poly depth 30) tt
+
+back : (a b c : Point) → negℤ (turn a b c) ≡ turn a c b
+back a b c = ring (a .x ∷ a .y ∷ b .x ∷ b .y ∷ c .x ∷ c .y ∷ []) (search poly depth 30) tt
+
+module _ (x0 y0 l : ℤ) (hl : pos 0 ≤ℤ l) where
+  two-rise : (a b c : Point) → Box x0 y0 l a → Box x0 y0 l b → Box x0 y0 l c → c .y ≤ℤ b .y → a .y ≤ℤ c .y → turn a b c ≤ℤ (l *ℤ l)
+  two-rise a b c ha hb hc h1 h2 = nonneg (x0 ∷ y0 ∷ l ∷ a .x ∷ a .y ∷ b .x ∷ b .y ∷ c .x ∷ c .y ∷ [])
+      (le h1 ⊠ le (ha .right) ⊞ le h2 ⊠ le (hb .right) ⊞ (le h1 ⊞ le h2) ⊠ le (hc .left) ⊞ hl ⊠ (le (hb .high) ⊞ le (ha .low))) (search poly depth 30) tt
+
+  one-rises : (a b c : Point) → Box x0 y0 l a → Box x0 y0 l b → Box x0 y0 l c → c .y ≤ℤ b .y → c .y ≤ℤ a .y → a .y ≤ℤ b .y → turn a b c ≤ℤ (l *ℤ l)
+  one-rises a b c ha hb hc h1 h2 h3 = nonneg (x0 ∷ y0 ∷ l ∷ a .x ∷ a .y ∷ b .x ∷ b .y ∷ c .x ∷ c .y ∷ [])
+      (le h1 ⊠ le (ha .right) ⊞ le h2 ⊠ le (hb .left) ⊞ le h3 ⊠ le (hc .left) ⊞ hl ⊠ (le (hb .high) ⊞ le (hc .low))) (search poly depth 30) tt
+
+  -- by the order of the three heights
+  pub turn-bound : (a b c : Point) → Box x0 y0 l a → Box x0 y0 l b → Box x0 y0 l c → turn a b c ≤ℤ (l *ℤ l)
+  turn-bound a b c ha hb hc = go (≤-or-< (c .y) (b .y)) (≤-or-< (a .y) (c .y)) (≤-or-< (b .y) (a .y))
+    where
+      at : (p q r : Point) → turn a b c ≡ turn p q r → turn p q r ≤ℤ (l *ℤ l) → turn a b c ≤ℤ (l *ℤ l)
+      at p q r e h = subst (λ (z : ℤ). z ≤ℤ (l *ℤ l)) (sym e) h
+
+      go : (c .y ≤ℤ b .y) ⊎ (b .y <ℤ c .y) → (a .y ≤ℤ c .y) ⊎ (c .y <ℤ a .y) → (b .y ≤ℤ a .y) ⊎ (a .y <ℤ b .y) → turn a b c ≤ℤ (l *ℤ l)
+      go (inl h1) (inl h2) h3 = two-rise a b c ha hb hc h1 h2
+      go (inl h1) (inr h2) (inl h3) = at c a b (sym (cyclic c a b)) (two-rise c a b hc ha hb h3 h1)
+      go (inl h1) (inr h2) (inr h3) = one-rises a b c ha hb hc h1 (≤-of-< h2) (≤-of-< h3)
+      go (inr h1) (inl h2) (inl h3) = at b c a (cyclic a b c) (two-rise b c a hb hc ha h2 h3)
+      go (inr h1) (inl h2) (inr h3) = at b c a (cyclic a b c) (one-rises b c a hb hc ha h2 (≤-of-< h3) (≤-of-< h1))
+      go (inr h1) (inr h2) (inl h3) = at c a b (sym (cyclic c a b)) (one-rises c a b hc ha hb h3 (≤-of-< h1) (≤-of-< h2))
+      go (inr h1) (inr h2) (inr h3) = clash (a .y ∷ b .y ∷ c .y ∷ []) (lt h1 ⊞ lt h2 ⊞ lt h3 ⊞ nn 2) (search poly depth 30) tt
+
+  twice-le : (w : ℤ) → w ≤ℤ (l *ℤ l) → (pos 2 *ℤ w) ≤ℤ (pos 2 *ℤ (l *ℤ l))
+  twice-le w h = nonneg (w ∷ l ∷ []) (nn 2 ⊠ le h) (search poly depth 30) tt
+
+  minus-twice-le : (w : ℤ) → negℤ w ≤ℤ (l *ℤ l) → negℤ (pos 2 *ℤ w) ≤ℤ (pos 2 *ℤ (l *ℤ l))
+  minus-twice-le w h = nonneg (w ∷ l ∷ []) (nn 2 ⊠ le h) (search poly depth 30) tt
+
+  pub triple-weight : (a b c : Point) → Box x0 y0 l a → Box x0 y0 l b → Box x0 y0 l c → tripleDisk a b c .e ≤ℤ (pos 2 *ℤ (l *ℤ l))
+  triple-weight a b c ha hb hc = go (ltZ (circle a b c .e) (pos 0))
+    where
+      go : (s : Bool) → turned s (circle a b c) .e ≤ℤ (pos 2 *ℤ (l *ℤ l))
+      go true = minus-twice-le (turn a b c) (subst (λ (z : ℤ). z ≤ℤ (l *ℤ l)) (sym (back a b c)) (turn-bound a c b ha hc hb))
+      go false = twice-le (turn a b c) (turn-bound a b c ha hb hc)

@@ -1,0 +1,76 @@
+-- When a set of points has a given disk as its own smallest disk: the link from document 01's words to the tests of a search. Assumes nothing.
+-- Proved: two disks with the same centre and squared radius are multiples (`multiple-from-same`); a smallest disk in the words of document 01 is strongly
+-- minimal (`smallest-strong`, the converse of `strong-smallest`); of points on the rim, one is a support set if and only if it is the centre
+-- (`one-test`), two if and only if the centre is midway (`two-test`).
+use mathlib.Core.Path.{_≡_, refl, sym, subst}
+use mathlib.Core.Logic.{_↔_}
+use mathlib.Core.List.{List, [], _∷_, List·Memᴰ·head}
+use lib.IntN.{ℤ, pos, negsuc, negℤ, _+ℤ_, _-ℤ_, _*ℤ_}
+use lib.Signed.{_≤ℤ_, _<ℤ_}
+use Rattle.integers.specs.Ring.{poly, linear, eqn, _&_}
+use Rattle.integers.specs.Order.{≡-cancel, ≤-of-eq, nonneg, le}
+use Rattle.geometry.specs.declared.Point.{Point}
+use Rattle.disks.proofs.Lifted.{Lifted, value}
+use Rattle.disks.proofs.Minimal.{none-of, also, same-refl, StronglyMinimal}
+use Rattle.disks.proofs.Base.{Multiple, pointDisk, point-value, point-gap, positive-not-zero, positive-one}
+use Rattle.disks.proofs.Weights.{one-strong, two-strong}
+use Rattle.disks.proofs.Unique.{strong-unique, strong-multiple}
+use Rattle.disks.proofs.Acute.{pair-own}
+use Rattle.disks.proofs.LiftedProcedure.{mtf}
+use Rattle.disks.proofs.Correct.{mtf-strong}
+use Rattle.disks.proofs.Smallest.{Smallest, lower, smallest-unique, mtf-smallest}
+
+-- ---- the same disk
+
+pub multiple-from-same : (F G : Lifted) → pos 0 <ℤ F .e → pos 0 <ℤ G .e → F .cx *ℤ G .e ≡ G .cx *ℤ F .e → F .cy *ℤ G .e ≡ G .cy *ℤ F .e → lower F .s *ℤ (G .e *ℤ G .e) ≡ lower G .s *ℤ (F .e *ℤ F .e) → Multiple F G
+multiple-from-same F G hf hg hx hy hs = record {
+  same-x = linear (F .e ∷ F .cx ∷ G .e ∷ G .cx ∷ []) (eqn (negsuc 0) hx) (search poly depth 30) tt;
+  same-y = linear (F .e ∷ F .cy ∷ G .e ∷ G .cy ∷ []) (eqn (negsuc 0) hy) (search poly depth 30) tt;
+  same-k = ≡-cancel (positive-not-zero hg) (≡-cancel (positive-not-zero hf) (linear (F .e ∷ F .cx ∷ F .cy ∷ F .k ∷ G .e ∷ G .cx ∷ G .cy ∷ G .k ∷ [])
+      (eqn (pos 1) hs & eqn (negℤ (F .cx *ℤ G .e +ℤ G .cx *ℤ F .e)) hx & eqn (negℤ (F .cy *ℤ G .e +ℤ G .cy *ℤ F .e)) hy) (search poly depth 30) tt));
+}
+
+pub smallest-strong : {q : Point} {Q : List Point} (F : Lifted) → Smallest (q ∷ Q) (lower F) → StronglyMinimal (q ∷ Q) [] F
+smallest-strong {q} {Q} F m = strong-multiple (mtf-strong q Q) (m .proper) (multiple-from-same G F (mtf-strong q Q .feasible .proper) (m .proper) (u .0) (u .1) (u .2))
+  where
+    G : Lifted
+    G = mtf (q ∷ Q) .disk
+
+    u : (G .cx *ℤ F .e ≡ F .cx *ℤ G .e) × (G .cy *ℤ F .e ≡ F .cy *ℤ G .e) × (lower G .s *ℤ (F .e *ℤ F .e) ≡ lower F .s *ℤ (G .e *ℤ G .e))
+    u = smallest-unique (same-refl (q ∷ Q)) (mtf-smallest q Q) m
+
+-- ---- one point
+
+pub point-own : (a : Point) → StronglyMinimal (a ∷ []) [] (pointDisk a)
+point-own a = record {
+  feasible = record { proper = positive-one; holds = also Held (≤-of-eq (point-value a)) (none-of Held); rim = none-of (λ p. value (pointDisk a) p ≡ pos 0) };
+  least = λ G f. subst (λ (z : ℤ). pos 0 ≤ℤ z) (sym (point-gap a G)) (minus (value G a) (f .holds a (List·Memᴰ·head refl)));
+}
+  where
+    Held : Point → Type 0
+    Held p = value (pointDisk a) p ≤ℤ pos 0
+
+    minus : (v : ℤ) → v ≤ℤ pos 0 → pos 0 ≤ℤ negℤ v
+    minus v h = nonneg (v ∷ []) (le h) (search poly depth 30) tt
+
+module _ (F : Lifted) (proper : pos 0 <ℤ F .e) where
+  pub one-test : (a : Point) → value F a ≡ pos 0 → StronglyMinimal (a ∷ []) [] F ↔ ((a .x *ℤ F .e ≡ F .cx) × (a .y *ℤ F .e ≡ F .cy))
+  one-test a ha = (λ m. let u = strong-unique m (point-own a) in (centre (a .x) (F .cx) (F .e) (u .same-x), centre (a .y) (F .cy) (F .e) (u .same-y)), λ h. one-strong F proper a ha (none (a .x) (F .cx) (F .e) (h .0)) (none (a .y) (F .cy) (F .e) (h .1)))
+    where
+      centre : (p c e : ℤ) → e *ℤ p ≡ pos 1 *ℤ c → p *ℤ e ≡ c
+      centre p c e h = linear (p ∷ c ∷ e ∷ []) (eqn (pos 1) h) (search poly depth 30) tt
+
+      none : (p c e : ℤ) → p *ℤ e ≡ c → e *ℤ p -ℤ c ≡ pos 0
+      none p c e h = linear (p ∷ c ∷ e ∷ []) (eqn (pos 1) h) (search poly depth 30) tt
+
+  pub two-test : (a b : Point) → value F a ≡ pos 0 → value F b ≡ pos 0 → StronglyMinimal (a ∷ b ∷ []) [] F ↔ (((a .x +ℤ b .x) *ℤ F .e ≡ pos 2 *ℤ F .cx) × ((a .y +ℤ b .y) *ℤ F .e ≡ pos 2 *ℤ F .cy))
+  two-test a b ha hb = (
+    λ m. let u = strong-unique m (pair-own a b) in (midway (a .x) (b .x) (F .cx) (F .e) (u .same-x), midway (a .y) (b .y) (F .cy) (F .e) (u .same-y)),
+    λ h. two-strong F proper a b ha hb (opposite (a .x) (b .x) (F .cx) (F .e) (h .0), opposite (a .y) (b .y) (F .cy) (F .e) (h .1)),
+  )
+    where
+      midway : (p q c e : ℤ) → e *ℤ (p +ℤ q) ≡ pos 2 *ℤ c → (p +ℤ q) *ℤ e ≡ pos 2 *ℤ c
+      midway p q c e h = linear (p ∷ q ∷ c ∷ e ∷ []) (eqn (pos 1) h) (search poly depth 30) tt
+
+      opposite : (p q c e : ℤ) → (p +ℤ q) *ℤ e ≡ pos 2 *ℤ c → (e *ℤ p -ℤ c) +ℤ (e *ℤ q -ℤ c) ≡ pos 0
+      opposite p q c e h = linear (p ∷ q ∷ c ∷ e ∷ []) (eqn (pos 1) h) (search poly depth 30) tt

@@ -1,0 +1,64 @@
+-- The first support set of a list (01, "Disk and rim": the first rim set).
+--
+--   before p q        == p comes before q in rising order, x first and then y
+--   sorted P          == the different points of P in rising order
+--   choose k Q        == the sets of k points of Q, each in Q's order, in lexical order
+--   supports P T      == T's own smallest disk is that of P (01: T is a rim set of P)
+--   firstSupport P    == of the sets of one, then two, then three different points of P, each in rising order, the first that supports P
+use mathlib.Core.Bool.{Bool, true, false, _&&_, _||_}
+use mathlib.Core.List.{List, [], _∷_, _++_}
+use Prim.Native.Nat.{ℕ, zero, suc}
+use lib.Dec.{eqb}
+use lib.IntN.{ℤ}
+use lib.Signed.{ltZ, leZ}
+use Rattle.geometry.specs.declared.Point.{Point}
+use Rattle.geometry.specs.declared.Disk.{Disk}
+use Rattle.disks.specs.Procedure.{diskOf}
+
+abbrev pub eqZ : ℤ → ℤ → Bool
+eqZ a b = leZ a b && leZ b a
+
+unfoldable pub before : Point → Point → Bool
+before p q = ltZ (p .x) (q .x) || (eqZ (p .x) (q .x) && ltZ (p .y) (q .y))
+
+-- p in its place in a rising list; one that is there already is not put in again
+unfoldable pub insert : Point → List Point → List Point
+insert p [] = p ∷ []
+insert p (q ∷ l) = place (before p q) (before q p) (insert p l)
+  where
+    place : Bool → Bool → List Point → List Point
+    place true b m = p ∷ q ∷ l
+    place false true m = q ∷ m
+    place false false m = q ∷ l
+
+unfoldable pub sorted : List Point → List Point
+sorted [] = []
+sorted (p ∷ P) = insert p (sorted P)
+
+-- p in front of each set
+unfoldable pub fronted : Point → List (List Point) → List (List Point)
+fronted p [] = []
+fronted p (T ∷ cs) = (p ∷ T) ∷ fronted p cs
+
+unfoldable pub choose : ℕ → List Point → List (List Point)
+choose zero Q = [] ∷ []
+choose (suc k) [] = []
+choose (suc k) (p ∷ Q) = fronted p (choose k Q) ++ choose (suc k) Q
+
+unfoldable pub sameDisk : Disk → Disk → Bool
+sameDisk c d = eqZ (c .x) (d .x) && (eqZ (c .y) (d .y) && (eqb (c .e) (d .e) && eqb (c .s) (d .s)))
+
+unfoldable pub supports : List Point → List Point → Bool
+supports P T = sameDisk (diskOf T) (diskOf P)
+
+-- the first of the sets that passes the test; [] where none does
+unfoldable pub firstOf : (List Point → Bool) → List (List Point) → List Point
+firstOf f [] = []
+firstOf f (T ∷ cs) = pick (f T) (firstOf f cs)
+  where
+    pick : Bool → List Point → List Point
+    pick true l = T
+    pick false l = l
+
+unfoldable pub firstSupport : List Point → List Point
+firstSupport P = firstOf (supports P) (choose 1 (sorted P) ++ (choose 2 (sorted P) ++ choose 3 (sorted P)))
