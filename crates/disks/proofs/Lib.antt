@@ -27,3 +27,5 @@ pub mod Choose
 pub mod First
 pub mod Weight
 pub mod Answer
+pub mod LowestTerms
+pub mod Bridge
