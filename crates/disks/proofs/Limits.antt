@@ -7,6 +7,7 @@ use mathlib.Core.Path.{_≡_, sym, _∙_, ap, subst}
 use mathlib.Core.Logic.{_⊎_, inl, inr}
 use mathlib.Core.Bool.{Bool, true, false}
 use mathlib.Core.List.{List, [], _∷_, List·Memᴰ·not-nil}
+use native.Mathlib.Omega.{arith}
 use lib.IntN.{ℤ, pos, negsuc, negℤ, _+ℤ_, _-ℤ_, _*ℤ_}
 use lib.Signed.{_≤ℤ_, _<ℤ_, ltZ}
 use Rattle.integers.specs.Ring.{ring, poly}
@@ -16,7 +17,8 @@ use Rattle.disks.proofs.Lifted.{Lifted, value, gap, combine, value-comb
 use Rattle.disks.proofs.Minimal.{In, Feasible, StronglyMinimal}
 use Rattle.disks.proofs.Base.{positive-one}
 use Rattle.disks.proofs.Triple.{turn, turned, circle, tripleDisk}
-use Rattle.disks.proofs.Smallest.{strong-smallest, distance}
+use Rattle.disks.specs.Smallest.{RationalDisk, Fits}
+use Rattle.disks.proofs.StrongSmallest.{lifted-least}
 
 -- ---- the centre lies where the points lie
 
@@ -107,11 +109,19 @@ module _ {P : List Point} {F : Lifted} (s : StronglyMinimal P [] F) (inside : (p
   y-high = nonneg (F .e ∷ F .cx ∷ F .cy ∷ []) (le (centre-side s (pos 0) (negsuc 0) (negsuc 749) positive-one (λ p i. nonneg (p .x ∷ p .y ∷ []) (le (inside p i .high)) (search poly depth 30) tt))) (search poly depth 60 fits 9000) tt
 
   -- the disk about the em box: centre (500, 250), squared radius 500,000
-  about : (p : Point) → In p P → (pos 1 *ℤ distance p (pos 500) (pos 250) (pos 1)) ≤ℤ (pos 500000 *ℤ (pos 1 *ℤ pos 1))
-  about p i = nonneg (p .x ∷ p .y ∷ []) (le (inside p i .left) ⊠ le (inside p i .right) ⊞ le (inside p i .low) ⊠ le (inside p i .high)) (search poly depth 30) tt
+  about : RationalDisk
+  about = record { x = pos 500; y = pos 250; e = 1; a = pos 500000; b = 1; e-some = omega arith; b-some = omega arith }
+
+  about-fits : Fits about P []
+  unfolding about
+  about-fits = record {
+    holds-all = λ p i. nonneg (p .x ∷ p .y ∷ []) (le (inside p i .left) ⊠ le (inside p i .right) ⊞ le (inside p i .low) ⊠ le (inside p i .high)) (search poly depth 30) tt;
+    through-all = λ q i. absurd (List·Memᴰ·not-nil i);
+  }
 
   radius : squaredRadius F ≤ℤ (pos 500000 *ℤ (F .e *ℤ F .e))
-  radius = nonneg (F .e ∷ F .cx ∷ F .cy ∷ F .k ∷ []) (le (strong-smallest s .least (pos 500) (pos 250) (pos 1) (pos 500000) (pos 1) positive-one positive-one about)) (search poly depth 30) tt
+  unfolding about
+  radius = nonneg (F .e ∷ F .cx ∷ F .cy ∷ F .k ∷ []) (le (lifted-least s about about-fits)) (search poly depth 30) tt
 
   pub em-limits : Limits F
   em-limits = record { x-low = x-low; x-high = x-high; y-low = y-low; y-high = y-high; radius = radius }
