@@ -25,3 +25,4 @@ pub mod Bridge
 pub mod StrongSmallest
 pub mod OneWriting
 pub mod Welzl
+pub mod First

@@ -1,3 +1,4 @@
 pub mod Smallest
 pub mod Procedure
 pub mod Support
+pub mod FirstSupport
