@@ -26,3 +26,4 @@ pub mod StrongSmallest
 pub mod OneWriting
 pub mod Welzl
 pub mod First
+pub mod Answer
