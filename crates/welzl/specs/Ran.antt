@@ -5,9 +5,9 @@
 --   Ran R n before after d t     == the procedure on the first n points of `before`, with R fixed: d is its disk, t its tests, and `after` the list
 --                                   that it leaves
 use mathlib.Core.Path.{_≡_}
+use mathlib.Core.Bool.{true}
 use mathlib.Core.List.{List, _++_, List·Memᴰ}
 use Prim.Native.Nat.{ℕ, _*_, _≤_}
-use lib.Dec.{T}
 use lib.IntN.{ℤ}
 use lib.ListN.{length, drop}
 use Rattle.geometry.specs.declared.Point.{Point}
@@ -20,7 +20,7 @@ use Rattle.welzl.specs.Boundary.{members, roomIn}
 use Rattle.welzl.specs.Relative.{Keeps}
 
 pub record Boxed (P : List Point) : Type 0 where
-  pub in-box : (p : Point) → List·Memᴰ p P → T (inEmBox p)
+  pub in-box : (p : Point) → List·Memᴰ p P → inEmBox p ≡ true
 
 pub record Given (fixed : Boundary) (n : ℕ) (list : List ℤ) : Type 0 where
   pub few : n ≤ 4096

@@ -2,13 +2,14 @@
 use geometry::Point;
 ghost use mathlib.Core.Path.{_≡_};
 ghost use Prim.Native.Nat.{_+_, _*_, _≤_};
+ghost use lib.IntN.{_-ℤ_};
 ghost use lib.ListN.{length};
 ghost use Rattle.integers.specs.Bounds.{Within};
 ghost use Rattle.geometry.specs.Plane.{inEmBox};
 ghost use Rattle.geometry.proofs.PointLists.{toFront};
 ghost use Rattle.disks.proofs.LiftedProcedure.{rimDisk};
 ghost use Rattle.welzl.specs.Boundary.{members, roomIn, added};
-ghost use Rattle.welzl.specs.Relative.{isOutside, Small, Keeps, circleAbout};
+ghost use Rattle.welzl.specs.Relative.{Near, SmallNumbers, Small, beyond, isOutside, Keeps, diameterAbout, circleAbout};
 ghost use Rattle.welzl.specs.Ran.{Boxed, Given, Ran};
 
 // The set R of points fixed on the boundary, the one added last first.
@@ -57,19 +58,37 @@ pub fn add_point(fixed: Boundary, p: Point) -> Boundary
     }
 }
 
-// Whether p is outside d: |p - q|² e > 2 (p - q)·g.
+// |p - q|² e > 2 (p - q)·g, for p = (x, y)
+fn is_beyond(e: i64, qx: i64, qy: i64, gx: i64, gy: i64, x: i64, y: i64) -> bool
+    requires { ⌜ SmallNumbers e qx qy gx gy ⌝ ∗ ⌜ Within 1000 x ⌝ ∗ ⌜ Within 1000 y ⌝ }
+    ensures { λ r. ⌜ r ≡ beyond e qx qy gx gy x y ⌝ }
+{
+    let dx = x - qx;
+    let dy = y - qy;
+    0 < dx * (dx * e - 2 * gx) + dy * (dy * e - 2 * gy)
+}
+
+// Whether p is outside d.
 pub fn is_outside(d: RelativeDisk, p: Point) -> bool
-    requires { ⌜ Small d ⌝ }
+    requires { ⌜ Small d ⌝ ∗ ⌜ Near p ⌝ }
     ensures { λ r. ⌜ r ≡ isOutside d p ⌝ }
 {
-    let x = geometry::wide(p.x) - d.qx;
-    let y = geometry::wide(p.y) - d.qy;
-    0 < x * (x * d.e - 2 * d.gx) + y * (y * d.e - 2 * d.gy)
+    is_beyond(d.e, d.qx, d.qy, d.gx, d.gy, geometry::wide(p.x), geometry::wide(p.y))
+}
+
+// The disk whose diameter is from (ax, ay) to (bx, by).
+fn diameter(ax: i64, ay: i64, bx: i64, by: i64) -> RelativeDisk
+    requires { ⌜ (Within 1000 ax) × (Within 1000 ay) ⌝ ∗ ⌜ (Within 1000 bx) × (Within 1000 by) ⌝ }
+    ensures { λ r. ⌜ r ≡ diameterAbout ax ay bx by ⌝ }
+{
+    let gx = bx - ax;
+    let gy = by - ay;
+    RelativeDisk { e: 2, qx: ax, qy: ay, gx, gy }
 }
 
 // The circle through q, q + u and q + v.
-fn circle(qx: i64, qy: i64, ux: i64, uy: i64, vx: i64, vy: i64) -> RelativeDisk
-    requires { ⌜ Within 1000 qx ⌝ ∗ ⌜ Within 1000 qy ⌝ ∗ ⌜ (Within 2000 ux) × (Within 2000 uy) ⌝ ∗ ⌜ (Within 2000 vx) × (Within 2000 vy) ⌝ }
+fn circle_about(qx: i64, qy: i64, ux: i64, uy: i64, vx: i64, vy: i64) -> RelativeDisk
+    requires { ⌜ (Within 1000 qx) × (Within 1000 qy) ⌝ ∗ ⌜ (Within 2000 ux) × (Within 2000 uy) ⌝ ∗ ⌜ (Within 2000 vx) × (Within 2000 vy) ⌝ }
     ensures { λ r. ⌜ r ≡ circleAbout qx qy ux uy vx vy ⌝ }
 {
     let e = 2 * (ux * vy - uy * vx);
@@ -83,6 +102,14 @@ fn circle(qx: i64, qy: i64, ux: i64, uy: i64, vx: i64, vy: i64) -> RelativeDisk
     RelativeDisk { e, qx, qy, gx, gy }
 }
 
+// The circle through (ax, ay), (bx, by) and (cx, cy).
+fn circle(ax: i64, ay: i64, bx: i64, by: i64, cx: i64, cy: i64) -> RelativeDisk
+    requires { ⌜ (Within 1000 ax) × (Within 1000 ay) ⌝ ∗ ⌜ (Within 1000 bx) × (Within 1000 by) ⌝ ∗ ⌜ (Within 1000 cx) × (Within 1000 cy) ⌝ }
+    ensures { λ r. ⌜ r ≡ circleAbout ax ay (bx -ℤ ax) (by -ℤ ay) (cx -ℤ ax) (cy -ℤ ay) ⌝ }
+{
+    circle_about(ax, ay, bx - ax, by - ay, cx - ax, cy - ay)
+}
+
 // The smallest disk with R on its boundary.
 pub fn boundary_disk(fixed: Boundary) -> RelativeDisk
     requires { ⌜ Boxed (members fixed) ⌝ }
@@ -91,16 +118,15 @@ pub fn boundary_disk(fixed: Boundary) -> RelativeDisk
     match fixed {
         Boundary::None => RelativeDisk { e: 0, qx: -1, qy: 0, gx: -1, gy: 0 },
         Boundary::One(a) => RelativeDisk { e: 1, qx: geometry::wide(a.x), qy: geometry::wide(a.y), gx: 0, gy: 0 },
-        Boundary::Two(a, b) => {
-            let x = geometry::wide(a.x);
-            let y = geometry::wide(a.y);
-            RelativeDisk { e: 2, qx: x, qy: y, gx: geometry::wide(b.x) - x, gy: geometry::wide(b.y) - y }
-        }
-        Boundary::Three(a, b, c) => {
-            let x = geometry::wide(a.x);
-            let y = geometry::wide(a.y);
-            circle(x, y, geometry::wide(b.x) - x, geometry::wide(b.y) - y, geometry::wide(c.x) - x, geometry::wide(c.y) - y)
-        }
+        Boundary::Two(a, b) => diameter(geometry::wide(a.x), geometry::wide(a.y), geometry::wide(b.x), geometry::wide(b.y)),
+        Boundary::Three(a, b, c) => circle(
+            geometry::wide(a.x),
+            geometry::wide(a.y),
+            geometry::wide(b.x),
+            geometry::wide(b.y),
+            geometry::wide(c.x),
+            geometry::wide(c.y),
+        ),
     }
 }
 
