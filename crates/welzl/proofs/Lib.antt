@@ -1,0 +1,4 @@
+pub mod Shift
+pub mod RelativeLaws
+pub mod RunLaws
+pub mod RanLaws
