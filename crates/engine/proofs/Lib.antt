@@ -1,0 +1,3 @@
+pub mod Box
+pub mod Checks
+pub mod Found
