@@ -1,0 +1,4 @@
+pub mod FieldLaws
+pub mod ByteLists
+pub mod TwosLaws
+pub mod Complement
