@@ -13,10 +13,10 @@ use mathlib.Core.Bool.{Bool, true, _&&_}
 use mathlib.Core.List.{List, [], _∷_}
 use Prim.Native.Nat.{ℕ, _*_}
 use lib.Dec.{leb, eqb}
-use lib.IntN.{ℤ, pos, negsuc, natAbs, _*ℤ_}
+use lib.IntN.{pos, negsuc, _*ℤ_}
 use lib.ListN.{length}
 use Rattle.integers.specs.Between.{between}
-use Rattle.integers.specs.Gcd.{gcd}
+use Rattle.integers.specs.LowestTerms.{common}
 use Rattle.geometry.specs.declared.Point.{Point}
 use Rattle.geometry.specs.declared.Disk.{Disk}
 use Rattle.geometry.specs.Plane.{inEmBox}
@@ -42,10 +42,10 @@ abbrev pub squareInLimit : Disk → Bool
 squareInLimit d = leb (d .s) (maxSquare * (d .e * d .e))
 
 abbrev pub isLowest : Disk → Bool
-isLowest d = eqb (gcd (gcd (natAbs (d .x)) (natAbs (d .y))) (d .e)) 1
+isLowest d = eqb (common (d .x) (d .y) (d .e)) 1
 
 unfoldable pub validDisk : Disk → Bool
-validDisk d = scaleInLimit d && (centreInEmBox d && (squareInLimit d && isLowest d))
+validDisk d = scaleInLimit d && (isLowest d && (centreInEmBox d && squareInLimit d))
 
 -- ---- the points
 

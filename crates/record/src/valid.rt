@@ -2,7 +2,7 @@
 ghost use mathlib.Core.Path.{_≡_};
 ghost use Prim.Native.Nat.{_≤_};
 ghost use Rattle.geometry.specs.Plane.{members};
-ghost use Rattle.record.specs.Valid.{maxE, scaleInLimit, centreInEmBox, squareInLimit, rising, allInEmBox, validPoints};
+ghost use Rattle.record.specs.Valid.{maxE, scaleInLimit, centreInEmBox, squareInLimit, rising, allInEmBox, validPoints, isLowest, validDisk, valid};
 use geometry::Disk;
 use geometry::SupportSet;
 
@@ -77,11 +77,46 @@ fn all_in_em_box(t: SupportSet) -> bool
     }
 }
 
-pub fn is_valid(t: SupportSet) -> bool
+fn points_are_valid(t: SupportSet) -> bool
     ensures { λ r. ⌜ r ≡ validPoints (members t) ⌝ }
 {
     if is_rising(t) {
         return all_in_em_box(t);
+    }
+    false
+}
+
+fn is_lowest(d: Disk) -> bool
+    ensures { λ r. ⌜ r ≡ isLowest d ⌝ }
+{
+    let x = d.x;
+    let y = d.y;
+    integers::gcd_of(
+        integers::gcd_of(integers::magnitude(x), integers::magnitude(y)),
+        d.e,
+    )
+        == 1
+}
+
+fn disk_is_valid(d: Disk) -> bool
+    ensures { λ r. ⌜ r ≡ validDisk d ⌝ }
+{
+    if scale_in_limit(d) {
+        if is_lowest(d) {
+            if centre_in_em_box(d) {
+                return square_in_limit(d);
+            }
+        }
+    }
+    false
+}
+
+// Whether a record can hold d and t.
+pub fn is_valid(d: Disk, t: SupportSet) -> bool
+    ensures { λ r. ⌜ r ≡ valid d (members t) ⌝ }
+{
+    if disk_is_valid(d) {
+        return points_are_valid(t);
     }
     false
 }
