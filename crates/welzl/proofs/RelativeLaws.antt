@@ -147,7 +147,7 @@ unfolding rimDisk circleAbout
 keeps-circle a b c h k m = record {
   small =
       circle-small (a .x) (a .y) (b .x -ℤ a .x) (b .y -ℤ a .y) (c .x -ℤ a .x) (c .y -ℤ a .y) (h .x-near) (h .y-near)
-          (at-most (search values depth 30) tt) (at-most (search values depth 30) tt) (at-most (search values depth 30) tt) (at-most (search values depth 30) tt);
+      (at-most (search values depth 30) tt) (at-most (search values depth 30) tt) (at-most (search values depth 30) tt) (at-most (search values depth 30) tt);
   same = inl (about-turned (ltZ (circle a b c .e) (pos 0)) a (circle a b c .e) _ _);
 }
 

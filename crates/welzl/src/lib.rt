@@ -73,7 +73,15 @@ pub fn is_outside(d: RelativeDisk, p: Point) -> bool
     requires { ⌜ Small d ⌝ ∗ ⌜ Near p ⌝ }
     ensures { λ r. ⌜ r ≡ isOutside d p ⌝ }
 {
-    is_beyond(d.e, d.qx, d.qy, d.gx, d.gy, geometry::wide(p.x), geometry::wide(p.y))
+    is_beyond(
+        d.e,
+        d.qx,
+        d.qy,
+        d.gx,
+        d.gy,
+        geometry::wide(p.x),
+        geometry::wide(p.y),
+    )
 }
 
 // The disk whose diameter is from (ax, ay) to (bx, by).
@@ -83,7 +91,13 @@ fn diameter(ax: i64, ay: i64, bx: i64, by: i64) -> RelativeDisk
 {
     let gx = bx - ax;
     let gy = by - ay;
-    RelativeDisk { e: 2, qx: ax, qy: ay, gx, gy }
+    RelativeDisk {
+        e: 2,
+        qx: ax,
+        qy: ay,
+        gx,
+        gy,
+    }
 }
 
 // The circle through q, q + u and q + v.
@@ -97,7 +111,13 @@ fn circle_about(qx: i64, qy: i64, ux: i64, uy: i64, vx: i64, vy: i64) -> Relativ
     let gx = u * vy - v * uy;
     let gy = v * ux - u * vx;
     if e < 0 {
-        return RelativeDisk { e: -e, qx, qy, gx: -gx, gy: -gy };
+        return RelativeDisk {
+            e: -e,
+            qx,
+            qy,
+            gx: -gx,
+            gy: -gy,
+        };
     }
     RelativeDisk { e, qx, qy, gx, gy }
 }
@@ -116,9 +136,26 @@ pub fn boundary_disk(fixed: Boundary) -> RelativeDisk
     ensures { λ r. ⌜ Keeps r (rimDisk (members fixed)) ⌝ }
 {
     match fixed {
-        Boundary::None => RelativeDisk { e: 0, qx: -1, qy: 0, gx: -1, gy: 0 },
-        Boundary::One(a) => RelativeDisk { e: 1, qx: geometry::wide(a.x), qy: geometry::wide(a.y), gx: 0, gy: 0 },
-        Boundary::Two(a, b) => diameter(geometry::wide(a.x), geometry::wide(a.y), geometry::wide(b.x), geometry::wide(b.y)),
+        Boundary::None => RelativeDisk {
+            e: 0,
+            qx: -1,
+            qy: 0,
+            gx: -1,
+            gy: 0,
+        },
+        Boundary::One(a) => RelativeDisk {
+            e: 1,
+            qx: geometry::wide(a.x),
+            qy: geometry::wide(a.y),
+            gx: 0,
+            gy: 0,
+        },
+        Boundary::Two(a, b) => diameter(
+            geometry::wide(a.x),
+            geometry::wide(a.y),
+            geometry::wide(b.x),
+            geometry::wide(b.y),
+        ),
         Boundary::Three(a, b, c) => circle(
             geometry::wide(a.x),
             geometry::wide(a.y),
