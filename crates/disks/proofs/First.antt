@@ -19,7 +19,8 @@ use Rattle.geometry.specs.declared.Point.{Point}
 use Rattle.geometry.specs.declared.Disk.{Disk}
 use Rattle.disks.specs.Smallest.{In, Same, Smallest}
 use Rattle.disks.specs.Procedure.{diskOf}
-use Rattle.disks.specs.Support.{eqZ, sorted, choose, sameDisk, supports, firstOf, firstSupport}
+use Rattle.geometry.specs.Order.{eqZ}
+use Rattle.disks.specs.Support.{sorted, choose, sameDisk, supports, firstOf, firstSupport}
 use Rattle.disks.specs.FirstSupport.{Rising, IsSupport, Lexical, here, there, Earlier, fewer, lexical, IsFirstSupport}
 use Rattle.disks.proofs.Lifted.{Lifted}
 use Rattle.disks.proofs.Minimal.{same-refl, same-sym, strong-same}
