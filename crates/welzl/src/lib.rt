@@ -224,7 +224,12 @@ fn reduced(x: i64, y: i64, e: u64, s: u64) -> Disk
     let g = e / t.e;
     let tx = t.x;
     let ty = t.y;
-    Disk { x: tx, y: ty, e: t.e, s: s / (g * g) }
+    Disk {
+        x: tx,
+        y: ty,
+        e: t.e,
+        s: s / (g * g),
+    }
 }
 
 // The disk with centre q + g/e and q on its boundary.
@@ -235,7 +240,7 @@ fn written(e: i64, qx: i64, qy: i64, gx: i64, gy: i64) -> Disk
     let x = qx * e + gx;
     let y = qy * e + gy;
     let s = gx * gx + gy * gy;
-    reduced(x, y, e as u64, s as u64)
+    reduced(x, y, integers::magnitude(e), integers::magnitude(s))
 }
 
 // The procedure on the whole list, with no point fixed.
@@ -249,5 +254,8 @@ pub fn smallest(list: &mut [i16]) -> Run
     let run = mtf(list, n, Boundary::None);
     let d = run.disk;
     let disk = written(d.e, d.qx, d.qy, d.gx, d.gy);
-    Run { disk, tests: run.tests }
+    Run {
+        disk,
+        tests: run.tests,
+    }
 }
