@@ -27,3 +27,4 @@ pub mod OneWriting
 pub mod Welzl
 pub mod First
 pub mod Answer
+pub mod Supports

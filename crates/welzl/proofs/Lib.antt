@@ -2,3 +2,4 @@ pub mod Shift
 pub mod RelativeLaws
 pub mod RunLaws
 pub mod RanLaws
+pub mod Answers

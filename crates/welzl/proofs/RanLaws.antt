@@ -4,11 +4,13 @@
 --   point-same           : point i is as it was before the loop
 --   prefix-boxed         : the points before it lie in the em box
 --   ran-kept, ran-moved  : point i is not outside, and all stays; it is outside, the points before it again with point i fixed, and it moves to the front
+--   added-boxed          : with point i, R lies in the em box
 --   ran-length           : the list keeps its length
 --   ran-tests            : the tests are far from wrapping
 use mathlib.Core.Path.{_≡_, sym, ap, _∙_}
 use mathlib.Core.Bool.{Bool, true, false}
-use mathlib.Core.List.{List, _∷_, _++_}
+use mathlib.Core.Logic.{_⊎_, inl, inr}
+use mathlib.Core.List.{List, [], _∷_, _++_, List·Memᴰ, List·Memᴰ·cases-cons}
 use Prim.Native.Nat.{ℕ, _+_, _*_, _^_, _≤_, _<_}
 use native.Mathlib.Omega.{arith}
 use lib.ListN.{length, drop, length-append, length-drop}
@@ -21,6 +23,7 @@ use Rattle.geometry.proofs.PointLists.{toFront, length-flat, firstPoints-flat, 
 use Rattle.disks.proofs.LiftedProcedure.{State, rimDisk, outside, tested}
 use Rattle.disks.proofs.Lists.{perm-in}
 use Rattle.welzl.specs.declared.Boundary.{Boundary}
+use Rattle.welzl.specs.declared.Boundary.the-variants.{None, One, Two, Three}
 use Rattle.welzl.specs.declared.RelativeDisk.{RelativeDisk}
 use Rattle.welzl.specs.Boundary.{members, roomIn, added}
 use Rattle.welzl.specs.Relative.{isOutside, Keeps}
@@ -103,6 +106,19 @@ module _ (R : Boundary) (i : ℕ) (l₀ l : List ℤ) (d : RelativeDisk) (k : �
         tests-is = rw r (omega (arith, ran .tests-is, again .tests-is ∙ ap (λ (t : State). t .count) again-same));
         left-is = rw r (left-moved l′ (again .left-is));
       }
+
+in-front : (p : Point) (P : List Point) → Boxed P → inEmBox p ≡ true → Boxed (p ∷ P)
+in-front p P b h = record { in-box = λ q m. go q (List·Memᴰ·cases-cons m) }
+  where
+    go : (q : Point) → (q ≡ p) ⊎ List·Memᴰ q P → inEmBox q ≡ true
+    go q (inl e) = rw e h
+    go q (inr k) = b .in-box q k
+
+pub added-boxed : (R : Boundary) (p : Point) → Boxed (members R) → inEmBox p ≡ true → Boxed (members (added R p))
+added-boxed None p b h = in-front p [] b h
+added-boxed (One a) p b h = in-front p (a ∷ []) b h
+added-boxed (Two a c) p b h = in-front p (a ∷ c ∷ []) b h
+added-boxed (Three a c d) p b h = b
 
 module _ (R : Boundary) (n : ℕ) (before after : List ℤ) (d : RelativeDisk) (k : ℕ) (fits : 2 * n ≤ length before) (ran : Ran R n before after d k) where
   pub ran-length : length after ≡ length before

@@ -2,6 +2,7 @@
 --
 --   same-numbers          : two such disks with the same numbers are equal
 --   same-circle           : so are the circles of the same numbers
+--   same-terms            : and the disks in lowest terms
 --   circle-turned, circle-as-is : the circle where e is negative, and where it is not
 --   wide-near             : a widened coordinate of a near point, as the machine reads it back
 --   near-box              : a point of the em box is near
@@ -23,6 +24,7 @@ use Rattle.integers.specs.Order.{positive, le, nn, _⊞_, _⊠_}
 use Rattle.integers.specs.Ring.{ring, poly}
 use Rattle.geometry.specs.declared.Point.{Point}
 use Rattle.geometry.specs.Plane.{inEmBox}
+use Rattle.disks.specs.Procedure.{lowestTerms}
 use Rattle.disks.proofs.Lifted.{Lifted, value, noDisk}
 use Rattle.disks.proofs.Triple.{turned, circle}
 use Rattle.disks.proofs.Relative.{relative, point-relative, pair-relative}
@@ -40,6 +42,9 @@ same-numbers a b c d f = λ i. record { e = a i; qx = b i; qy = c i; gx = d i; g
 pub same-circle : {qx qy ux uy vx vy qx′ qy′ ux′ uy′ vx′ vy′ : ℤ} → qx ≡ qx′ → qy ≡ qy′ → ux ≡ ux′ → uy ≡ uy′ → vx ≡ vx′ → vy ≡ vy′
     → circleAbout qx qy ux uy vx vy ≡ circleAbout qx′ qy′ ux′ uy′ vx′ vy′
 same-circle a b c d f g = λ i. circleAbout (a i) (b i) (c i) (d i) (f i) (g i)
+
+pub same-terms : {X X′ Y Y′ : ℤ} {E E′ S S′ : ℕ} → X ≡ X′ → Y ≡ Y′ → E ≡ E′ → S ≡ S′ → lowestTerms X Y E S ≡ lowestTerms X′ Y′ E′ S′
+same-terms a b c d = λ i. lowestTerms (a i) (b i) (c i) (d i)
 
 module _ (qx qy ux uy vx vy : ℤ) where
   abbrev e : ℤ
@@ -147,7 +152,7 @@ unfolding rimDisk circleAbout
 keeps-circle a b c h k m = record {
   small =
       circle-small (a .x) (a .y) (b .x -ℤ a .x) (b .y -ℤ a .y) (c .x -ℤ a .x) (c .y -ℤ a .y) (h .x-near) (h .y-near)
-          (at-most (search values depth 30) tt) (at-most (search values depth 30) tt) (at-most (search values depth 30) tt) (at-most (search values depth 30) tt);
+      (at-most (search values depth 30) tt) (at-most (search values depth 30) tt) (at-most (search values depth 30) tt) (at-most (search values depth 30) tt);
   same = inl (about-turned (ltZ (circle a b c .e) (pos 0)) a (circle a b c .e) _ _);
 }
 

@@ -6,6 +6,7 @@
 --   pointAbout, diameterAbout     == the disks of one point and of a diameter
 --   circleAbout q u v             == the circle through q, q + u and q + v
 --   Near p, Small d               == numbers with which no step of the test overflows
+--   AnswerNumbers e q g           == numbers with which no step of writing the disk overflows
 --   Keeps d F                     == d is F, and small
 use mathlib.Core.Path.{_≡_}
 use mathlib.Core.Logic.{_⊎_}
@@ -13,6 +14,7 @@ use mathlib.Core.Bool.{Bool, true, false}
 use lib.IntN.{ℤ, pos, negsuc, negℤ, _+ℤ_, _-ℤ_, _*ℤ_}
 use lib.Signed.{ltZ}
 use Rattle.integers.specs.Bounds.{Within}
+use Rattle.integers.specs.Order.{_≺_}
 use Rattle.geometry.specs.declared.Point.{Point}
 use Rattle.disks.proofs.Lifted.{Lifted, noDisk}
 use Rattle.disks.proofs.Relative.{relative}
@@ -62,6 +64,15 @@ pub record SmallNumbers (e qx qy gx gy : ℤ) : Type 0 where
 
 abbrev pub Small : RelativeDisk → Type 0
 Small d = SmallNumbers (d .e) (d .qx) (d .qy) (d .gx) (d .gy)
+
+-- of a disk whose squared radius is at most 500,000 and whose e is at most 2,000,000: no step of writing it overflows
+pub record AnswerNumbers (e qx qy gx gy : ℤ) : Type 0 where
+  pub proper : pos 0 ≺ e
+  pub e-few : Within 20000000 e
+  pub qx-few : Within 1000 qx
+  pub qy-few : Within 1000 qy
+  pub gx-few : Within 1500000000 gx
+  pub gy-few : Within 1500000000 gy
 
 pub record Keeps (d : RelativeDisk) (F : Lifted) : Type 0 where
   pub small : Small d
