@@ -3,11 +3,13 @@
 --   refused-odd, refused-empty, refused-long, refused-outside : the refusal due first
 --   accepted       : none is due
 --   list-refused   : a refused list is unchanged
+--   even-length, some-length : the length of a list that passed the first two
 --   list-accepted  : an accepted list is left as the procedure leaves it
 use mathlib.Core.Path.{_≡_, refl, ap}
 use mathlib.Core.Bool.{Bool, true, false, not}
-use mathlib.Core.List.{List}
-use Prim.Native.Nat.{ℕ, _/_, _%_, _≤_, _<_}
+use mathlib.Core.List.{List, [], _∷_}
+use native.Mathlib.Omega.{arith}
+use Prim.Native.Nat.{ℕ, zero, suc, _/_, _%_, _≤_, _<_}
 use borrow.Author.Tests.{eq-eqb, ne-eqb, lt-ltb, le-ltb}
 use lib.Dec.{eqb, ltb}
 use lib.IntN.{ℤ}
@@ -49,3 +51,17 @@ list-refused l e = ap (λ (o : Outcome Enclosure). orderAfter o l) e
 pub list-accepted : (l : List ℤ) {e : Enclosure} → encloseOf l ≡ given e → listAfter l ≡ flat (orderOf (points l))
 unfolding listAfter
 list-accepted l e = ap (λ (o : Outcome Enclosure). orderAfter o l) e
+
+-- ---- the length
+
+two-cases : (m : ℕ) → m < 2 → (m ≡ 1 → ⊥) → m ≡ 0
+two-cases zero h k = refl
+two-cases (suc zero) h k = absurd (k refl)
+two-cases (suc (suc m)) h k = absurd (omega arith)
+
+pub even-length : (l : List ℤ) → (length l % 2 ≡ 1 → ⊥) → length l % 2 ≡ 0
+even-length l h = two-cases (length l % 2) (omega arith) h
+
+pub some-length : (l : List ℤ) → (length l ≡ 0 → ⊥) → 0 < length l
+some-length [] h = absurd (h refl)
+some-length (x ∷ l) h = omega arith
