@@ -15,12 +15,12 @@ use Rattle.answers.specs.Outcome.{Outcome, given, refused, refuseIf}
 use Rattle.integers.specs.Between.{first, rest}
 use Rattle.geometry.specs.declared.Point.{Point}
 use Rattle.geometry.specs.declared.Disk.{Disk}
-use Rattle.geometry.specs.Plane.{inEmBox}
+use Rattle.geometry.specs.Plane.{inEmBox, allInEmBox}
 use Rattle.geometry.specs.Order.{before}
-use Rattle.record.specs.Valid.{oneToThree, rising, allInEmBox, validPoints, valid}
+use Rattle.record.specs.Valid.{oneToThree, rising, validPoints, valid}
 use Rattle.record.specs.Bytes.{recordLength, diskBytes, pointsBytes, recordBytes}
 use Rattle.record.specs.Reading.{diskIn, pointIn, meant, pointsIn, readOf}
-use Rattle.record.proofs.ValidLaws.{Limits, limits, valid-disk, valid-points}
+use Rattle.record.proofs.ValidLaws.{DiskBounds, limits, valid-disk, valid-points}
 use Rattle.record.proofs.ByteLaws.{not-four, recordBytes-length}
 use Rattle.record.proofs.TenFields.{Small, small, ReadsAs, fields-read, fields-again}
 use Rattle.record.proofs.Meaning.{meant-one, meant-two, meant-three, made-meant}
@@ -40,7 +40,7 @@ accepted bs d ps e r h =
 points-read : {bs : List ℕ} {d : Disk} {a b c : Point} → ReadsAs bs d a b c → pointsIn bs ≡ meant a b c
 points-read r = λ i. meant (r .first i) (r .second i) (r .third i)
 
-module _ (d : Disk) (k : Limits d) where
+module _ (d : Disk) (k : DiskBounds d) where
   read-one : (a : Point) → Small a → Read (recordBytes d (a ∷ [])) d (a ∷ [])
   unfolding recordBytes
   read-one a s = let r = fields-read d k a a a s s s in record { disk = r .disk; points = points-read r ∙ meant-one a }

@@ -27,7 +27,7 @@ use Rattle.geometry.specs.declared.Disk.{Disk}
 use Rattle.geometry.specs.Plane.{inEmBox}
 use Rattle.record.specs.Bytes.{recordLength, diskBytes, pointsBytes}
 use Rattle.record.specs.Reading.{diskIn, pointIn}
-use Rattle.record.proofs.ValidLaws.{Limits}
+use Rattle.record.proofs.ValidLaws.{DiskBounds}
 use Rattle.record.proofs.Joined.{Field, joined, Fit, joined-read, read-joined}
 
 -- ---- a record as ten fields
@@ -61,7 +61,7 @@ small p h =
     let y : natAbs (p .y) ≤ 1000 = between-size (negsuc 249) (p .y) (pos 750) (rest in-x in-y h) in
     record { x-small = fits {w = w16} (v-abs {z = p .x} x) tt .sfits; y-small = fits {w = w16} (v-abs {z = p .y} y) tt .sfits }
 
-module _ (d : Disk) (k : Limits d) where
+module _ (d : Disk) (k : DiskBounds d) where
   x-mag : mag (d .x) < half 8
   x-mag = fits {w = w64} (v-abs {z = d .x} (k .x-small)) tt .sfits
 
@@ -108,7 +108,7 @@ pub record ReadsAs (bs : List ℕ) (d : Disk) (a b c : Point) : Type 0 where
 point-read : (p : Point) (at : ℕ) (bs : List ℕ) → Small p → get 2 0 at bs ≡ twos 2 (p .x) → get 2 0 (at + 2) bs ≡ twos 2 (p .y) → pointIn at bs ≡ p
 point-read p at bs s x y = λ i. record { x = (ap (back 2) x ∙ back-twos 2 (p .x) (s .x-small)) i; y = (ap (back 2) y ∙ back-twos 2 (p .y) (s .y-small)) i }
 
-pub fields-read : (d : Disk) → Limits d → (a b c : Point) → Small a → Small b → Small c
+pub fields-read : (d : Disk) → DiskBounds d → (a b c : Point) → Small a → Small b → Small c
     → ReadsAs (diskBytes d ++ pointsBytes (a ∷ b ∷ c ∷ [])) d a b c
 fields-read d k a b c f g h =
     let bs = joined (fields d a b c) in
