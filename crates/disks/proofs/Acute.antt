@@ -1,9 +1,11 @@
--- Which pairs and triples are support sets: what the engine's search tests. Assumes nothing.
---     corner a b c      (b - a)·(c - a): positive where the angle at a is acute
---     Kind a b c F      F is the disk over one of the three sides; or the three are on its rim and all angles are acute
--- Proved: the disk over b, c is strongly minimal for b and c (`pair-own`), and so for a too where the angle at a is not acute (`blunt`); a strongly
--- minimal disk of three points is of one of the two kinds (`kind`); three rim points with acute angles have the disk as their own
--- (`acute-strong`), and three arms around the centre make acute angles (`around-acute`).
+-- Which pairs and triples are support sets: what a search can test.
+--
+--   corner a b c      == (b − a)·(c − a): positive where the angle at a is acute
+--   Kind a b c F      == F is the disk over one of the three sides; or the three are on its boundary and all angles are acute
+--   pair-own, blunt   : the disk over b, c is strongly minimal for b and c, and so for a too where the angle at a is not acute
+--   kind              : a strongly minimal disk of three points is of one of the two kinds
+--   acute-strong      : three boundary points with acute angles have the disk as their own
+--   around-acute      : three arms around the centre make acute angles
 use mathlib.Core.Path.{_≡_, refl, sym, _∙_, ap, subst}
 use mathlib.Core.Logic.{_⊎_, inl, inr}
 use mathlib.Core.List.{[], _∷_, List·Memᴰ·head, List·Memᴰ·tail, List·Permᴰ, List·Permᴰ·cons, List·Permᴰ·swap, List·Permᴰ·trans}

@@ -1,7 +1,9 @@
--- Two and three plane vectors: their products, and what the signs of these say. Assumes nothing.
---     dot, cross, Opposite      the two products; the sum is zero
--- Proved: the identities by which a vector is a combination of two others (`cone-product`, `exchange-l` and the like); vectors of one length
--- with cross product zero are equal or opposite (`parallel`); with a positive one they are less than a half turn apart (`wide-arms`).
+-- Two and three plane vectors: their products, and what the signs of these say.
+--
+--   dot, cross, Opposite      == the two products; the sum is zero
+--   cone-product, exchange-l, exchange-r, back-l, back-r : a vector as a combination of two others
+--   parallel                  : vectors of one length with cross product zero are equal or opposite
+--   wide-arms                 : with a positive one they are less than a half turn apart
 use mathlib.Core.Path.{_≡_, sym, _∙_, ap₂, subst}
 use mathlib.Core.Logic.{_⊎_, inl, inr}
 use mathlib.Core.List.{[], _∷_}

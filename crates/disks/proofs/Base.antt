@@ -1,8 +1,10 @@
--- The smallest disk with one or two given points on its rim, and multiples of a form. Assumes nothing.
---     pointDisk, pairDisk     the point itself; the disk over a diameter
---     Multiple F G            G is F times a factor: the same disk
--- Proved: the two disks are strongly minimal for no further points (`point-strong`, `pair-strong`); a multiple of a disk holds the same points
--- (`multiple-value`, `holds-by`) and has no gap to it (`multiple-no-gap`).
+-- The smallest disk with one or two given points on its boundary, and multiples of a form.
+--
+--   pointDisk, pairDisk    == the point itself; the disk over a diameter
+--   Multiple F G           == G is F times a factor: the same disk
+--   point-strong, pair-strong        : the two disks are strongly minimal, with no further points
+--   multiple-value, holds-by         : a multiple of a disk holds the same points
+--   multiple-no-gap                  : and has no gap to it
 use mathlib.Core.Path.{_≡_, refl, sym, _∙_, ap, ap₂}
 use mathlib.Core.Logic.{_≢_}
 use mathlib.Core.List.{[], _∷_, List·Memᴰ·head, List·Memᴰ·tail}

@@ -1,9 +1,10 @@
--- The sets of k points of a rising list, in lexical order. Assumes nothing.
---     choose k Q         the lists of k points of Q that keep Q's order
---     Later R cs         every element of cs stands in R to all after it
---     Lexical S T        at the first place where S and T differ, S has the point that is before
--- Proved: of a rising Q, each list chosen rises (`choose-rises`), has points of Q (`choose-in`), k of them (`choose-length`); every rising list of
--- points of Q is chosen (`choose-all`); the lists are in lexical order (`choose-lexical`).
+-- The sets of k points of a rising list, in lexical order: laws of `choose`.
+--
+--   Among T cs         == T is one of the sets cs
+--   Later R cs         == every set of cs stands in R to all after it
+--   choose-length, choose-in, choose-rises : each set chosen from a rising Q has k points, of Q, and rises
+--   choose-all         : every rising list of points of Q is chosen
+--   choose-lexical     : the sets are in lexical order
 use mathlib.Core.Path.{_≡_, refl, sym, _∙_, ap, subst}
 use mathlib.Core.Logic.{_⊎_, inl, inr}
 use mathlib.Core.List.{List, [], _∷_, _++_, List·Memᴰ, List·Memᴰ·head, List·Memᴰ·tail, List·Memᴰ·cases-cons, List·Memᴰ·not-nil, List·Memᴰ·append-cases, Memᴰ·append-left, Memᴰ·append-right, Memᴰ·cast}

@@ -1,8 +1,9 @@
--- The planar lemma: arms of one length > 0 from one centre. Assumes nothing.
---     Cone f ps           two of the points, l and r, whose arms bound a cone narrower than a half turn that has all arms; f gives a point's arm
---     Placed f ps         two arms are opposite; or the centre is strictly inside the triangle of three; or all lie in a cone
--- Proved: `placed`, one of the three holds for every list of points, not empty, whose arms have one length > 0. In a cone, v = f l + f r has a
--- positive product with every arm (`front`).
+-- The planar lemma about arms of one length > 0 from one centre (000, Lemma 1 (iii)).
+--
+--   Cone f ps       == two of the points, l and r, whose arms bound a cone narrower than a half turn that has all arms; f gives a point's arm,
+--                      and f l + f r has a positive product with every arm
+--   Placed f ps     == two arms are opposite; or the centre is strictly inside the triangle of three; or all lie in a cone
+--   placed          : one of the three holds for every list of points, not empty, whose arms have one length > 0
 use mathlib.Core.Path.{_≡_, refl, sym, _∙_, ap₂, subst}
 use mathlib.Core.Logic.{_⊎_, inl, inr}
 use mathlib.Core.List.{List, [], _∷_, List·Memᴰ·head, List·Memᴰ·tail, List·Memᴰ·not-nil}

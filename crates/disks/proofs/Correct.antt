@@ -1,8 +1,10 @@
--- Welzl's theorem: the procedure ends on the strongly minimal disk. Assumes nothing.
---     Found P R F        F is strongly minimal for (P, R); or both are empty and F is the empty disk
---     Ran k R P s        what holds of the result s of a run on P with R fixed and room for k more
--- Proved: `run-right`, Ran of every run for which some disk is feasible and whose R has at most three points and none twice, and
--- `run-strong`, that its disk is strongly minimal unless there is no point at all; `mtf-ran` and `mtf-strong`, the same from no point fixed.
+-- Welzl's theorem for the lifted procedure: it ends on the strongly minimal disk.
+--
+--   Found P R F        == F is strongly minimal for (P, R); or both are empty and F is the empty disk
+--   Ran k R P s        == what holds of the result s of a run on P with R fixed and room for k more: disk, list left, count
+--   run-ran, run-right : Ran of every run for which some disk is feasible and whose R has at most three points, none twice
+--   run-strong         : its disk is strongly minimal, unless there is no point at all
+--   mtf-ran, mtf-strong : the same from no point fixed, where a large disk is feasible
 use mathlib.Core.Path.{_≡_, refl, sym, _∙_, ap, subst}
 use mathlib.Core.Logic.{_⊎_, inl, inr}
 use mathlib.Core.Bool.{Bool, true, false, not}

@@ -19,7 +19,7 @@ use Rattle.geometry.specs.declared.Point.{Point}
 use Rattle.geometry.specs.declared.Disk.{Disk}
 use Rattle.disks.specs.Smallest.{In, Same, Smallest}
 use Rattle.disks.specs.Procedure.{diskOf}
-use Rattle.disks.specs.Support.{eqZ, sorted, choose, sameDisk, supports, firstOf, firstSupport}
+use Rattle.disks.specs.Support.{eqZ, sorted, choose, candidates, sameDisk, supports, firstOf, firstSupport}
 use Rattle.disks.specs.FirstSupport.{Rising, IsSupport, Lexical, here, there, Earlier, fewer, lexical, IsFirstSupport}
 use Rattle.disks.proofs.Lifted.{Lifted}
 use Rattle.disks.proofs.Minimal.{same-refl, same-sym, strong-same}
@@ -125,9 +125,6 @@ first-passes t (S ∷ cs) l R i h = go (λ j. first-passes t cs (l .1) R j h) (t
     go f false e (inr j) = subst (Passes t (S ∷ cs)) (sym (first-no t S cs e)) (later e (f j))
 
 -- ---- the candidates
-
-abbrev candidates : List Point → List (List Point)
-candidates Q = choose 1 Q ++ (choose 2 Q ++ choose 3 Q)
 
 lexical-earlier : (k : ℕ) (cs : List (List Point)) → ((S : List Point) → Among S cs → length S ≡ k) → Later Lexical cs → Later Earlier cs
 lexical-earlier k [] f l = tt

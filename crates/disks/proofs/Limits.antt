@@ -1,8 +1,10 @@
--- How large the numbers of a smallest disk can be. Assumes nothing.
---     Box x0 y0 l p         p lies in the square with the corner (x0, y0) and side l
---     BoxLimits x0 y0 l F   the centre lies in that square, and S/E² is at most l²/2
--- Proved: a half plane that has all points has the centre (`centre-side`); so a smallest disk of points of the square has these limits (`box-limits`);
--- twice the area of a triangle in a square is at most the square (`turn-bound`), so E is at most twice the square (`triple-weight`).
+-- How large the numbers of a smallest disk of points in a square can be.
+--
+--   Box x0 y0 l p         == p lies in the square with lower left (x0, y0) and side l
+--   BoxLimits x0 y0 l F   == the centre lies in that square, and S/E² is at most l²/2
+--   centre-side           : a half plane that has all points has the centre
+--   box-limits            : so a strongly minimal disk of points of the square has these limits
+--   turn-bound, triple-weight : twice the area of a triangle in a square is at most the square, so E is at most twice the square
 use mathlib.Core.Path.{_≡_, sym, _∙_, ap, subst}
 use mathlib.Core.Logic.{_⊎_, inl, inr}
 use mathlib.Core.Bool.{Bool, true, false}

@@ -1,11 +1,14 @@
--- Feasible and strongly minimal disks, and the step of Welzl's induction, his Lemma 1 (ii) in the strong form. Assumes nothing.
---     Feasible P R F            F is a disk that holds each point of P and has each point of R on its rim
---     StronglyMinimal P R F     F is feasible, and gap F G is not negative for every feasible G: F is the smallest, and no other is
---     Below P R F               what the step asks of the disk found so far; the empty disk has it too
---     none-of, also             a fact of each member of a list, put together; `In` and `Same` are those of specs/Smallest.antt
--- Proved: a strongly minimal disk is below (`strong-below`), and the empty disk is (`none-below`); a point outside goes to the rim
--- (`to-rim`: a disk feasible for (P, R + p); `step`: the strongly minimal disk of (P, R + p) is that of (P + p, R)); a point that is held
--- changes nothing (`held`); all this depends on the members alone (`strong-same`, `feasible-same`).
+-- Feasible and strongly minimal disks, and the step of Welzl's induction (000, Lemma 1 (ii), in the strong form).
+--
+--   Feasible P R F         == F is a disk that holds each point of P and has each point of R on its boundary
+--   StronglyMinimal P R F  == F is feasible, and gap F G is not negative for every feasible G: F is the smallest, and no other is
+--   Below P R F            == what the step asks of the disk found so far; the empty disk has it too
+--   none-of, also          == a fact of each member of a list, put together
+--   strong-below, none-below    : a strongly minimal disk is below; the empty disk is
+--   to-rim                 : a point outside goes to the boundary: a disk feasible for (P, R + p)
+--   step                   : the strongly minimal disk of (P, R + p) is that of (P + p, R), if p was outside
+--   held                   : a point that is held changes nothing
+--   strong-same, feasible-same  : all this depends on the members alone
 use mathlib.Core.Path.{_≡_, refl, sym, _∙_, ap, subst}
 use mathlib.Core.Logic.{_⊎_, inl, inr}
 use mathlib.Core.List.{List, [], _∷_, List·Memᴰ·head, List·Memᴰ·tail, List·Memᴰ·cases-cons, List·Memᴰ·not-nil}

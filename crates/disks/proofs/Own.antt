@@ -1,7 +1,9 @@
--- When a set of points has a given disk as its own smallest disk: the link from document 01's words to the tests of a search. Assumes nothing.
--- Proved: two disks with the same centre and squared radius are multiples (`multiple-from-same`); a smallest disk in the words of document 01 is strongly
--- minimal (`smallest-strong`, the converse of `strong-smallest`); of points on the rim, one is a support set if and only if it is the centre
--- (`one-test`), two if and only if the centre is midway (`two-test`).
+-- When a set of points has a given disk as its own smallest disk.
+--
+--   multiple-from-same  : two disks with the same centre and squared radius are multiples
+--   written-multiple    : so are two with the same writing
+--   smallest-strong     : a smallest disk in the words of specs/, lifted, is strongly minimal: the converse of `strong-smallest`
+--   one-test, two-test  : of points on the boundary, one is a support set where and only where it is the centre, two where the centre is midway
 use mathlib.Core.Path.{_≡_, refl, sym, subst}
 use mathlib.Core.Logic.{_↔_}
 use mathlib.Core.List.{List, [], _∷_, List·Memᴰ·head}

@@ -1,7 +1,10 @@
--- A disk relative to a point on its rim, as the engine keeps it: centre q + g/E. Assumes nothing.
--- Proved: p is outside exactly where |d|²·E > 2(d·g), d = p - q (`relative-value`); S = |g|² (`relative-radius`); the disks of one, two and three points
--- are of this form, by computing (`point-relative`, `pair-relative`, and `circle`'s definition); |g|² for three points is the product of the three
--- squared sides (`circle-radius`).
+-- A disk relative to a point q on its boundary: centre q + g/E.
+--
+--   relative q e gx gy   == that disk, lifted
+--   relative-value       : p is outside where and only where |d|²·E > 2(d·g), d = p − q
+--   relative-radius      : S = |g|²
+--   point-relative, pair-relative : the disks of one and two points are of this form (and `circle` by its definition)
+--   circle-radius        : for three points |g|² is the product of the three squared sides
 use mathlib.Core.Path.{_≡_, refl, _∙_}
 use mathlib.Core.List.{[], _∷_}
 use lib.IntN.{ℤ, pos, _+ℤ_, _-ℤ_, _*ℤ_}

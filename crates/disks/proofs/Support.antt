@@ -1,8 +1,10 @@
--- The support set of a smallest disk, Welzl's Lemma 1 (iii). Assumes nothing.
---     RimOf F P               the points of P on the rim of F
---     SupportSet P T F        T: different points of P on the rim of F whose own strongly minimal disk is F
---     Supported P F           a support set of one, two or three points
--- Proved: every strongly minimal disk of a list (no point fixed) has one (`support`); so does the disk on which the procedure ends (`mtf-support`).
+-- A strongly minimal disk is fixed by one to three points of its boundary (000, Lemma 1 (iii)).
+--
+--   RimOf F P              == the points of P on the boundary of F
+--   SupportSet P T F       == T: different points of P on the boundary of F whose own strongly minimal disk is F
+--   Supported P F          == a support set of one, two or three points
+--   support                : every strongly minimal disk of a list, no point fixed, has one
+--   mtf-support            : so does the disk on which the procedure ends
 use mathlib.Core.Path.{_≡_, refl, sym, _∙_, subst}
 use mathlib.Core.Logic.{_⊎_, inl, inr, _≢_}
 use mathlib.Core.List.{List, [], _∷_, List·Memᴰ·head, List·Memᴰ·tail, List·Memᴰ·cases-cons, List·Memᴰ·not-nil, List·Memᴰ·eq-of-singleton}

@@ -1,6 +1,9 @@
--- The procedure's test in other forms. Assumes nothing.
--- Proved: for a disk, `outside` is document 01's inequality turned round (`outside-holds`); for a disk kept relative to a rim point q it is the engine's
--- |d|²·E > 2(d·g), d = p - q (`outside-relative`); the empty disk has every point outside (`outside-none`).
+-- The lifted procedure's test in other forms.
+--
+--   outside-holds      : for a disk, `outside` is document 01's inequality turned round
+--   outside-relative   : for a disk relative to a boundary point q it is |d|²·E > 2(d·g), d = p − q
+--   outside-none       : the empty disk has every point outside
+--   same-test, same-ltZ : two tests are equal where each passes if the other does
 use mathlib.Core.Path.{_≡_, refl, _∙_, ap}
 use mathlib.Core.Bool.{Bool, true, false}
 use mathlib.Core.List.{[], _∷_}

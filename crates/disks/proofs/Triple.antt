@@ -1,8 +1,10 @@
--- The disk through three points. Assumes nothing.
---     turn a b c             twice the area of the triangle, with a sign
---     circle, tripleDisk     the form that vanishes at three points; the same with its sign turned where E would be negative
--- Proved: every form that vanishes at the three is a multiple of `circle` (`circle-only`); three different points that some disk has on its rim are
--- not in a row (`not-in-row`); so `tripleDisk` is strongly minimal for whatever such a disk holds (`triple-strong`).
+-- The disk through three points.
+--
+--   turn a b c           == twice the area of the triangle, with a sign
+--   circle, tripleDisk   == the form that vanishes at three points; the same with its sign turned where E would be negative
+--   circle-only          : every form that vanishes at the three is a multiple of `circle`
+--   not-in-row           : three different points that some disk has on its boundary are not in a row
+--   triple-strong        : so `tripleDisk` is strongly minimal for whatever such a disk holds
 use mathlib.Core.Path.{_≡_, refl, sym, _∙_, ap}
 use mathlib.Core.Logic.{_⊎_, inl, inr, _≢_}
 use mathlib.Core.Bool.{Bool, true, false, not}

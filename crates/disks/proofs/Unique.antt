@@ -1,6 +1,8 @@
--- Strongly minimal disks are unique, and depend on the rim points alone. Assumes nothing.
--- Proved: two strongly minimal disks of (P, R) are multiples of one another (`strong-unique`); a multiple of a strongly minimal disk is one
--- (`strong-multiple`); a point strictly inside may be left out (`leave-out`), of the list P with no point fixed.
+-- Strongly minimal disks are unique, and depend on the boundary points alone.
+--
+--   strong-unique     : two strongly minimal disks of (P, R) are multiples of one another
+--   strong-multiple   : a multiple of a strongly minimal disk is one
+--   leave-out         : a point strictly inside may be left out, with no point fixed
 use mathlib.Core.Path.{_≡_, sym, _∙_, ap, subst}
 use mathlib.Core.List.{List, [], _∷_, List·Memᴰ·tail, List·Memᴰ·not-nil}
 use lib.IntN.{ℤ, pos, negsuc, negℤ, _+ℤ_, _-ℤ_, _*ℤ_}

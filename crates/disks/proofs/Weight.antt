@@ -1,5 +1,7 @@
--- How large E can become in a run. Assumes nothing.
--- Proved: of points in a square of side l at least 1, every disk on which a run ends has E at most 2l², and the points left lie in the square (`run-weight`).
+-- How large E can become in a run.
+--
+--   Boxed P, Small s   == every point of P lies in the square of side l; E is at most 2l², and the list left is boxed
+--   run-weight         : of points in a square of side l at least 1, every run is small
 use mathlib.Core.Path.{refl}
 use mathlib.Core.Bool.{Bool, true, false}
 use mathlib.Core.Logic.{_⊎_, inl, inr}

@@ -1,9 +1,11 @@
--- Rim points with positive weights about the centre fix the disk; and a disk all of whose rim points lie to one side can be made smaller. Assumes nothing.
---     arm F p           E·p - (X, Y): from the centre to p, times E
---     tilt F v          the form by which F is nudged towards v
--- Proved: a rim point whose arm is zero (`one-strong`), two with opposite arms (`two-strong`), three with the centre strictly inside their triangle
--- (`three-strong`) have F as their strongly minimal disk; at a strongly minimal disk no v has a positive product with every rim point's arm
--- (`no-side`).
+-- Boundary points about the centre fix the disk; a disk whose boundary points all lie to one side can be made smaller.
+--
+--   arm F p         == E·p − (X, Y): from the centre to p, times E
+--   tilt F v        == the form by which F is nudged towards v
+--   rim-length      : the arm of a boundary point has the squared length S
+--   one-strong, two-strong, three-strong : a boundary point with arm zero, two with opposite arms, three with the centre strictly inside
+--                     their triangle have F as their strongly minimal disk
+--   no-side         : at a strongly minimal disk no v has a positive product with every boundary point's arm
 use mathlib.Core.Path.{_≡_, refl, sym, _∙_, ap, subst}
 use mathlib.Core.Logic.{_⊎_, inl, inr}
 use mathlib.Core.List.{List, [], _∷_, List·Memᴰ·head, List·Memᴰ·tail, List·Memᴰ·cases-cons, List·Memᴰ·not-nil}
