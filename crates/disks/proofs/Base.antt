@@ -64,7 +64,12 @@ twice-none p q = ap₂ (λ (v w : ℤ). negℤ (pos 2 *ℤ v +ℤ pos 2 *ℤ w))
 
 pub pair-strong : (q r : Point) → StronglyMinimal [] (q ∷ r ∷ []) (pairDisk q r)
 pair-strong q r = record {
-  feasible = record { proper = positive-two; holds = none-of (λ p. value (pairDisk q r) p ≤ℤ pos 0); rim = also On (pair-first q r) (also On (pair-second q r) (none-of On)) };
+  feasible = record {
+    proper = positive-two;
+    holds = none-of (λ p. value (pairDisk q r) p ≤ℤ pos 0);
+    rim = also On (pair-first q r)
+        (also On (pair-second q r) (none-of On));
+  };
   least = λ G f. ≤-of-eq (sym (pair-gap q r G ∙ twice-none (f .rim q (List·Memᴰ·head refl)) (f .rim r (List·Memᴰ·tail (List·Memᴰ·head refl)))));
 }
   where
@@ -84,7 +89,8 @@ multiple-value {F} {G} m p = linear (F .e ∷ F .cx ∷ F .cy ∷ F .k ∷ G .e 
 
 multiple-gap : {F G : Lifted} → Multiple F G → F .e *ℤ gap F G ≡ F .e *ℤ pos 0
 multiple-gap {F} {G} m = linear (F .e ∷ F .cx ∷ F .cy ∷ F .k ∷ G .e ∷ G .cx ∷ G .cy ∷ G .k ∷ [])
-    (eqn (F .e *ℤ (pos 2 *ℤ F .cx)) (m .same-x) & eqn (F .e *ℤ (pos 2 *ℤ F .cy)) (m .same-y) & eqn (negℤ (F .e *ℤ F .e)) (m .same-k)) (search poly depth 30) tt
+    (eqn (F .e *ℤ (pos 2 *ℤ F .cx)) (m .same-x) & eqn (F .e *ℤ (pos 2 *ℤ F .cy)) (m .same-y) & eqn (negℤ (F .e *ℤ F .e)) (m .same-k))
+    (search poly depth 30) tt
 
 pub difference-positive : (a b : ℤ) → a <ℤ b → pos 0 <ℤ (b -ℤ a)
 difference-positive a b h = positive (a ∷ b ∷ []) (lt h) (search poly depth 30) tt

@@ -102,7 +102,8 @@ module _ (k : ℕ) (R Q : List Point) (p : Point) (s : State) (W : Lifted) (righ
 
   -- p is outside: what the inner run asks
   pub inner-feasible : pos 0 <ℤ value (s .disk) p → Feasible (s .left) (p ∷ R) (through (s .disk) p W)
-  inner-feasible out = feasible-same (same-sym (perm-same (r .left-permuted))) (to-rim (found-below (r .disk-found)) out (feasible-same (same-sym same-last) f))
+  inner-feasible out = feasible-same (same-sym (perm-same (r .left-permuted)))
+      (to-rim (found-below (r .disk-found)) out (feasible-same (same-sym same-last) f))
 
   pub inner-different : pos 0 <ℤ value (s .disk) p → Different (p ∷ R)
   inner-different out = ((λ m. outside-new (found-below (r .disk-found)) out m), d)
@@ -121,14 +122,20 @@ module _ (k : ℕ) (R Q : List Point) (p : Point) (s : State) (W : Lifted) (righ
   turn-outside out = let i = inner-ran out in record {
     disk-found = found (strong-same same-last (step (found-below (r .disk-found)) out (strong-same (perm-same (r .left-permuted)) (inner-strong i))));
     left-permuted = List·Permᴰ·trans (List·Permᴰ·cons refl (List·Permᴰ·trans (i .left-permuted) (r .left-permuted))) (Permᴰ·symm (last-first Q p));
-    count-most = rw most-last (omega (arith, r .count-most, subst (λ (n : ℕ). runWith k (p ∷ R) (s .left) .count ≤ most k n) (perm-length (r .left-permuted)) (i .count-most)));
+    count-most = rw most-last (omega (
+      arith,
+      r .count-most,
+      subst (λ (n : ℕ). runWith k (p ∷ R) (s .left) .count ≤ most k n)
+          (perm-length (r .left-permuted)) (i .count-most),
+    ));
   }
 
   pub turn-ran : Ran (suc k) R (Q ++ (p ∷ [])) (turn-at (runWith k) R s p)
   unfolding turn-at outside
   turn-ran = go (ltZ (pos 0) (value (s .disk) p)) (λ t. record { lt = t }) (λ t. ltZ-no t)
     where
-      go : (b : Bool) → (T b → pos 0 <ℤ value (s .disk) p) → (T (not b) → value (s .disk) p ≤ℤ pos 0) → Ran (suc k) R (Q ++ (p ∷ [])) (tested b s p (runWith k (p ∷ R) (s .left)))
+      go : (b : Bool) → (T b → pos 0 <ℤ value (s .disk) p) → (T (not b) → value (s .disk) p ≤ℤ pos 0)
+          → Ran (suc k) R (Q ++ (p ∷ [])) (tested b s p (runWith k (p ∷ R) (s .left)))
       go true out in′ = turn-outside (out tt)
       go false out in′ = turn-held (in′ tt) (runWith k (p ∷ R) (s .left))
 
@@ -139,7 +146,8 @@ feasible-front Q S f = record { proper = f .proper; holds = λ q m. f .holds q (
 pub next : (Q ps : List Point) (p : Point) → (Q ++ (p ∷ [])) ++ ps ≡ Q ++ (p ∷ ps)
 next Q ps p = append-assoc Q (p ∷ []) ps
 
-one-by-one-ran : (k : ℕ) (R Q ps : List Point) (s : State) (W : Lifted) → Right k → length R + suc k ≡ 3 → Different R → Feasible (Q ++ ps) R W → Ran (suc k) R Q s
+one-by-one-ran : (k : ℕ) (R Q ps : List Point) (s : State) (W : Lifted) → Right k → length R + suc k ≡ 3 → Different R → Feasible (Q ++ ps) R W
+    → Ran (suc k) R Q s
     → Ran (suc k) R (Q ++ ps) (one-by-one (turn-at (runWith k) R) s ps)
 unfolding one-by-one
 one-by-one-ran k R Q [] s W right size d f r = record {
@@ -147,7 +155,8 @@ one-by-one-ran k R Q [] s W right size d f r = record {
   left-permuted = subst (λ (P : List Point). List·Permᴰ (s .left) P) (sym (append-nil Q)) (r .left-permuted);
   count-most = subst (λ (P : List Point). s .count ≤ most (suc k) (length P)) (sym (append-nil Q)) (r .count-most);
 }
-one-by-one-ran k R Q (p ∷ ps) s W right size d f r = subst (λ (P : List Point). Ran (suc k) R P (one-by-one (turn-at (runWith k) R) (turn-at (runWith k) R s p) ps)) (next Q ps p)
+one-by-one-ran k R Q (p ∷ ps) s W right size d f r = subst
+    (λ (P : List Point). Ran (suc k) R P (one-by-one (turn-at (runWith k) R) (turn-at (runWith k) R s p) ps)) (next Q ps p)
     (one-by-one-ran k R (Q ++ (p ∷ [])) ps (turn-at (runWith k) R s p) W right size d (at-next f)
     (turn-ran k R Q p s W right size d (feasible-front (Q ++ (p ∷ [])) ps (at-next f)) r))
   where
@@ -165,7 +174,8 @@ run-ran (suc k) R P W f d size = one-by-one-ran k R [] P (start R []) W (run-ran
 pub run-right : (R P : List Point) (W : Lifted) → length R ≤ 3 → Different R → Feasible P R W → Ran (3 - length R) R P (run R P)
 run-right R P W h d f = run-ran (3 - length R) R P W f d (omega arith)
 
-pub run-strong : (R P : List Point) (W : Lifted) → length R ≤ 3 → 1 ≤ length P + length R → Different R → Feasible P R W → StronglyMinimal P R (run R P .disk)
+pub run-strong : (R P : List Point) (W : Lifted) → length R ≤ 3 → 1 ≤ length P + length R → Different R → Feasible P R W
+    → StronglyMinimal P R (run R P .disk)
 run-strong R P W h some d f = found-strong (run-right R P W h d f .disk-found) some
 
 -- ---- from no point fixed: a large disk is a witness
@@ -189,7 +199,8 @@ reach-in [] p m = absurd (List·Memᴰ·not-nil m)
 reach-in (q ∷ P) p m = go (λ k. reach-in P p k) (List·Memᴰ·cases-cons m)
   where
     go : (In p P → (p .x *ℤ p .x +ℤ p .y *ℤ p .y) ≤ℤ reach P) → (p ≡ q) ⊎ In p P → (p .x *ℤ p .x +ℤ p .y *ℤ p .y) ≤ℤ reach (q ∷ P)
-    go ih (inl e) = subst (λ (r : Point). (r .x *ℤ r .x +ℤ r .y *ℤ r .y) ≤ℤ reach (q ∷ P)) (sym e) (more-left (q .x *ℤ q .x +ℤ q .y *ℤ q .y) (reach P) (reach-nn P))
+    go ih (inl e) = subst (λ (r : Point). (r .x *ℤ r .x +ℤ r .y *ℤ r .y) ≤ℤ reach (q ∷ P)) (sym e)
+        (more-left (q .x *ℤ q .x +ℤ q .y *ℤ q .y) (reach P) (reach-nn P))
     go ih (inr k) = ≤-trans (ih k) (more-right (q .x *ℤ q .x +ℤ q .y *ℤ q .y) (reach P) (sq (q .x) ⊞ sq (q .y)))
 
 abbrev large : List Point → Lifted
@@ -199,7 +210,12 @@ large-value : (a b r : ℤ) → (a *ℤ a +ℤ b *ℤ b) ≤ℤ r → (pos 1 *�
 large-value a b r h = nonneg (a ∷ b ∷ r ∷ []) (le h) (search poly depth 30) tt
 
 pub large-feasible : (P : List Point) → Feasible P [] (large P)
-large-feasible P = record { proper = positive-one; holds = λ p m. large-value (p .x) (p .y) (reach P) (reach-in P p m); rim = λ q m. absurd (List·Memᴰ·not-nil m) }
+large-feasible P = record {
+  proper = positive-one;
+  holds = λ p m. large-value (p .x) (p .y) (reach P) (reach-in P p m);
+  rim = λ q m. absurd
+      (List·Memᴰ·not-nil m);
+}
 
 pub mtf-ran : (P : List Point) → Ran 3 [] P (mtf P)
 mtf-ran P = run-ran 3 [] P (large P) (large-feasible P) tt refl

@@ -28,7 +28,8 @@ abbrev pub squaredRadius : Lifted → ℤ
 squaredRadius F = F .cx *ℤ F .cx +ℤ F .cy *ℤ F .cy -ℤ F .e *ℤ F .k
 
 abbrev pub gap : Lifted → Lifted → ℤ
-gap F G = F .e *ℤ (pos 2 *ℤ (F .cx *ℤ G .cx +ℤ F .cy *ℤ G .cy) -ℤ F .e *ℤ G .k) -ℤ G .e *ℤ (pos 2 *ℤ (F .cx *ℤ F .cx +ℤ F .cy *ℤ F .cy) -ℤ F .e *ℤ F .k)
+gap F G = F .e *ℤ (pos 2 *ℤ (F .cx *ℤ G .cx +ℤ F .cy *ℤ G .cy) -ℤ F .e *ℤ G .k)
+    -ℤ G .e *ℤ (pos 2 *ℤ (F .cx *ℤ F .cx +ℤ F .cy *ℤ F .cy) -ℤ F .e *ℤ F .k)
 
 abbrev pub combine : ℤ → Lifted → ℤ → Lifted → Lifted
 combine b F a G = record { e = b *ℤ F .e +ℤ a *ℤ G .e; cx = b *ℤ F .cx +ℤ a *ℤ G .cx; cy = b *ℤ F .cy +ℤ a *ℤ G .cy; k = b *ℤ F .k +ℤ a *ℤ G .k }
@@ -42,7 +43,8 @@ pub value-combine : (b : ℤ) (F : Lifted) (a : ℤ) (G : Lifted) (p : Point) �
 value-combine b F a G p = ring (b ∷ a ∷ F .e ∷ F .cx ∷ F .cy ∷ F .k ∷ G .e ∷ G .cx ∷ G .cy ∷ G .k ∷ p .x ∷ p .y ∷ []) (search poly depth 30) tt
 
 pub gap-combine : (H : Lifted) (b : ℤ) (F : Lifted) (a : ℤ) (G : Lifted) → gap H (combine b F a G) ≡ b *ℤ gap H F +ℤ a *ℤ gap H G
-gap-combine H b F a G = ring (b ∷ a ∷ F .e ∷ F .cx ∷ F .cy ∷ F .k ∷ G .e ∷ G .cx ∷ G .cy ∷ G .k ∷ H .e ∷ H .cx ∷ H .cy ∷ H .k ∷ []) (search poly depth 30) tt
+gap-combine H b F a G = ring (b ∷ a ∷ F .e ∷ F .cx ∷ F .cy ∷ F .k ∷ G .e ∷ G .cx ∷ G .cy ∷ G .k ∷ H .e ∷ H .cx ∷ H .cy ∷ H .k ∷ [])
+    (search poly depth 30) tt
 
 -- ---- the gap
 

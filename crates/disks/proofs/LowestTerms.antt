@@ -43,7 +43,8 @@ quotient-exact (negsuc n) g h = sym (*-neg (pos g) (pos (_ / g)) ∙ ap (λ (m :
 
 -- a divisor of the quotient, times g, divides the dividend
 quotient-divisor : (z : ℤ) (g k : ℕ) → g ∣ natAbs z → k ∣ natAbs (quotZ z (pos g)) → g * k ∣ natAbs z
-quotient-divisor z g k h d = subst (λ (n : ℕ). g * k ∣ n) (sym (ap natAbs (quotient-exact z g h) ∙ abs-* (pos g) (quotZ z (pos g)))) (mul-dvd-mul-left k g d)
+quotient-divisor z g k h d = subst (λ (n : ℕ). g * k ∣ n) (sym (ap natAbs (quotient-exact z g h) ∙ abs-* (pos g) (quotZ z (pos g))))
+    (mul-dvd-mul-left k g d)
 
 pub positive-is : {z : ℤ} → pos 0 <ℤ z → (pos (natAbs z) ≡ z) × (1 ≤ natAbs z)
 positive-is {z = pos n} h = (refl, le-pos (<-to-≤ h))
@@ -53,7 +54,8 @@ positive-is {z = negsuc n} h = absurd (h .lt)
 divided-radius : (E X Y S g e x y px py : ℤ) → E ≡ g *ℤ e → X ≡ g *ℤ x → Y ≡ g *ℤ y
     → (E *ℤ px -ℤ X) *ℤ (E *ℤ px -ℤ X) +ℤ (E *ℤ py -ℤ Y) *ℤ (E *ℤ py -ℤ Y) ≡ S
     → S ≡ (g *ℤ g) *ℤ ((e *ℤ px -ℤ x) *ℤ (e *ℤ px -ℤ x) +ℤ (e *ℤ py -ℤ y) *ℤ (e *ℤ py -ℤ y))
-divided-radius E X Y S g e x y px py he hx hy h = sym h ∙ ap₂ _+ℤ_ (ap₂ _*ℤ_ first first) (ap₂ _*ℤ_ second second) ∙ ring (g ∷ e ∷ x ∷ y ∷ px ∷ py ∷ []) (search poly depth 30) tt
+divided-radius E X Y S g e x y px py he hx hy h = sym h ∙ ap₂ _+ℤ_ (ap₂ _*ℤ_ first first) (ap₂ _*ℤ_ second second)
+    ∙ ring (g ∷ e ∷ x ∷ y ∷ px ∷ py ∷ []) (search poly depth 30) tt
   where
     first : E *ℤ px -ℤ X ≡ (g *ℤ e) *ℤ px -ℤ g *ℤ x
     first = ap₂ (λ (a b : ℤ). a *ℤ px -ℤ b) he hx
@@ -116,7 +118,8 @@ module _ (F : Lifted) (proper : pos 0 <ℤ F .e) (p : Point) (on : value F p ≡
   whole = nn-is (sq (pos e *ℤ p .x -ℤ x) ⊞ sq (pos e *ℤ p .y -ℤ y))
 
   radius-divided : squaredRadius F ≡ pos (divisor * divisor * whole .0)
-  radius-divided = divided-radius (F .e) (F .cx) (F .cy) (squaredRadius F) (pos divisor) (pos e) x y (p .x) (p .y) e-exact x-exact y-exact (rim-length F p on) ∙ ap (λ (z : ℤ). (pos divisor *ℤ pos divisor) *ℤ z) (whole .1)
+  radius-divided = divided-radius (F .e) (F .cx) (F .cy) (squaredRadius F) (pos divisor) (pos e) x y (p .x) (p .y) e-exact x-exact y-exact
+      (rim-length F p on) ∙ ap (λ (z : ℤ). (pos divisor *ℤ pos divisor) *ℤ z) (whole .1)
 
   s-exact : natAbs (squaredRadius F) / (divisor * divisor) ≡ whole .0
   s-exact = ap (λ (z : ℤ). natAbs z / (divisor * divisor)) radius-divided ∙ mul-div-cancel-left (whole .0) (square-some divisor divisor-some)
@@ -129,7 +132,8 @@ module _ (F : Lifted) (proper : pos 0 <ℤ F .e) (p : Point) (on : value F p ≡
 
       whole-divides : divisor * k ∣ divisor
       whole-divides = gcd-is xy E .greatest (divisor * k)
-          (gcd-is (natAbs (F .cx)) (natAbs (F .cy)) .greatest (divisor * k) (quotient-divisor (F .cx) divisor k divides-x hx) (quotient-divisor (F .cy) divisor k divides-y hy))
+          (gcd-is (natAbs (F .cx)) (natAbs (F .cy)) .greatest (divisor * k) (quotient-divisor (F .cx) divisor k divides-x hx)
+          (quotient-divisor (F .cy) divisor k divides-y hy))
           (subst (λ (n : ℕ). divisor * k ∣ n) (mul-div-cancel' divisor divides-e) (mul-dvd-mul-left k divisor he))
 
   pub lowered-written : Written F (lowered F)
@@ -147,15 +151,18 @@ module _ (F : Lifted) (proper : pos 0 <ℤ F .e) (p : Point) (on : value F p ≡
 -- ---- the test
 
 distance-divided : (E X Y S K g e x y s px py : ℤ) → X ≡ g *ℤ x → Y ≡ g *ℤ y → E ≡ g *ℤ e → X *ℤ X +ℤ Y *ℤ Y -ℤ E *ℤ K ≡ (g *ℤ g) *ℤ s
-    → E *ℤ (E *ℤ (px *ℤ px +ℤ py *ℤ py) -ℤ pos 2 *ℤ (X *ℤ px +ℤ Y *ℤ py) +ℤ K) ≡ (g *ℤ g) *ℤ (((px *ℤ e -ℤ x) *ℤ (px *ℤ e -ℤ x) +ℤ (py *ℤ e -ℤ y) *ℤ (py *ℤ e -ℤ y)) -ℤ s)
+    → E *ℤ (E *ℤ (px *ℤ px +ℤ py *ℤ py) -ℤ pos 2 *ℤ (X *ℤ px +ℤ Y *ℤ py) +ℤ K)
+    ≡ (g *ℤ g) *ℤ (((px *ℤ e -ℤ x) *ℤ (px *ℤ e -ℤ x) +ℤ (py *ℤ e -ℤ y) *ℤ (py *ℤ e -ℤ y)) -ℤ s)
 distance-divided E X Y S K g e x y s px py hx hy he hs = linear (E ∷ X ∷ Y ∷ K ∷ g ∷ e ∷ x ∷ y ∷ s ∷ px ∷ py ∷ [])
     (eqn (negsuc 0) hs
     & eqn ((px *ℤ E -ℤ X +ℤ g *ℤ (px *ℤ e -ℤ x)) *ℤ px +ℤ (py *ℤ E -ℤ Y +ℤ g *ℤ (py *ℤ e -ℤ y)) *ℤ py) he
     & eqn (negℤ (px *ℤ E -ℤ X +ℤ g *ℤ (px *ℤ e -ℤ x))) hx
     & eqn (negℤ (py *ℤ E -ℤ Y +ℤ g *ℤ (py *ℤ e -ℤ y))) hy) (search poly depth 30) tt
 
-pub written-value : {F : Lifted} {d : Disk} (w : Written F d) (p : Point) → F .e *ℤ value F p ≡ (pos (w .g) *ℤ pos (w .g)) *ℤ (distance d p -ℤ pos (d .s))
-written-value {F} {d} w p = distance-divided (F .e) (F .cx) (F .cy) (squaredRadius F) (F .k) (pos (w .g)) (pos (d .e)) (d .x) (d .y) (pos (d .s)) (p .x) (p .y) (w .x-is) (w .y-is) (w .e-is) (w .s-is)
+pub written-value : {F : Lifted} {d : Disk} (w : Written F d) (p : Point)
+    → F .e *ℤ value F p ≡ (pos (w .g) *ℤ pos (w .g)) *ℤ (distance d p -ℤ pos (d .s))
+written-value {F} {d} w p = distance-divided (F .e) (F .cx) (F .cy) (squaredRadius F) (F .k) (pos (w .g)) (pos (d .e)) (d .x) (d .y) (pos (d .s))
+    (p .x) (p .y) (w .x-is) (w .y-is) (w .e-is) (w .s-is)
 
 pub square-factor : {F : Lifted} {d : Disk} (w : Written F d) → pos 0 <ℤ (pos (w .g) *ℤ pos (w .g))
 square-factor w = *-pos (≤-to-< (pos-le (w .g-some))) (≤-to-< (pos-le (w .g-some)))

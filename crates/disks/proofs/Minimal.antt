@@ -66,14 +66,16 @@ strong-same s h = record { feasible = feasible-same s (h .feasible); least = λ 
 -- ---- what the step asks
 
 under-from : (e f a b s t : ℤ) → f *ℤ a +ℤ e *ℤ b ≡ negℤ (pos 2 *ℤ (s *ℤ s +ℤ t *ℤ t)) → pos 0 <ℤ e → pos 0 <ℤ f → pos 0 ≤ℤ a → b ≤ℤ pos 0
-under-from e f a b s t q he hf ha = nonneg-by (e ∷ f ∷ a ∷ b ∷ s ∷ t ∷ []) e he (le (≤-of-< hf) ⊠ ha ⊞ nn 2 ⊠ (sq s ⊞ sq t) ⊞ eq (negsuc 0) q) (search poly depth 30) tt
+under-from e f a b s t q he hf ha = nonneg-by (e ∷ f ∷ a ∷ b ∷ s ∷ t ∷ []) e he (le (≤-of-< hf) ⊠ ha ⊞ nn 2 ⊠ (sq s ⊞ sq t) ⊞ eq (negsuc 0) q)
+    (search poly depth 30) tt
 
 pub strong-below : {P R : List Point} {F : Lifted} → StronglyMinimal P R F → Below P R F
 strong-below {P} {R} {F} h = record {
   weight = ≤-of-< (h .feasible .proper);
   holds = h .feasible .holds;
   rim = h .feasible .rim;
-  under = λ G f. under-from (F .e) (G .e) (gap F G) (gap G F) (apart-x F G) (apart-y F G) (gap-both F G) (h .feasible .proper) (f .proper) (h .least G f);
+  under = λ G f. under-from (F .e) (G .e) (gap F G) (gap G F) (apart-x F G) (apart-y F G) (gap-both F G) (h .feasible .proper) (f .proper)
+      (h .least G f);
 }
 
 pub none-below : Below [] [] noDisk
@@ -96,7 +98,8 @@ combine-holds : (b v a w : ℤ) → b ≤ℤ pos 0 → v ≤ℤ pos 0 → pos 0 
 combine-holds b v a w hb hv ha hw = nonneg (b ∷ v ∷ a ∷ w ∷ []) (le hb ⊠ le hv ⊞ le (≤-of-< ha) ⊠ le hw) (search poly depth 30) tt
 
 combine-rim : (b v a w : ℤ) → v ≡ pos 0 → w ≡ pos 0 → negℤ b *ℤ v +ℤ a *ℤ w ≡ pos 0
-combine-rim b v a w hv hw = ap (λ (z : ℤ). negℤ b *ℤ z +ℤ a *ℤ w) hv ∙ ap (λ (z : ℤ). negℤ b *ℤ pos 0 +ℤ a *ℤ z) hw ∙ ring (b ∷ a ∷ []) (search poly depth 30) tt
+combine-rim b v a w hv hw = ap (λ (z : ℤ). negℤ b *ℤ z +ℤ a *ℤ w) hv ∙ ap (λ (z : ℤ). negℤ b *ℤ pos 0 +ℤ a *ℤ z) hw
+    ∙ ring (b ∷ a ∷ []) (search poly depth 30) tt
 
 combine-own : (a w : ℤ) → negℤ w *ℤ a +ℤ a *ℤ w ≡ pos 0
 combine-own a w = ring (a ∷ w ∷ []) (search poly depth 30) tt
@@ -108,10 +111,12 @@ combine-least b g a h hb hg ha s = nonneg-by (b ∷ g ∷ a ∷ h ∷ []) a ha (
 abbrev pub through : Lifted → Point → Lifted → Lifted
 through F p G = combine (negℤ (value G p)) F (value F p) G
 
-pub to-rim : {P R : List Point} {F G : Lifted} {p : Point} → Below P R F → pos 0 <ℤ value F p → Feasible (p ∷ P) R G → Feasible P (p ∷ R) (through F p G)
+pub to-rim : {P R : List Point} {F G : Lifted} {p : Point} → Below P R F → pos 0 <ℤ value F p → Feasible (p ∷ P) R G
+    → Feasible P (p ∷ R) (through F p G)
 to-rim {P} {R} {F} {G} {p} h out f = record {
   proper = combine-proper (value G p) (F .e) (value F p) (G .e) held (h .weight) out (f .proper);
-  holds = λ q m. subst (λ (z : ℤ). z ≤ℤ pos 0) (sym (value-combine (negℤ (value G p)) F (value F p) G q)) (combine-holds (value G p) (value F q) (value F p) (value G q) held (h .holds q m) out (f .holds q (List·Memᴰ·tail m)));
+  holds = λ q m. subst (λ (z : ℤ). z ≤ℤ pos 0) (sym (value-combine (negℤ (value G p)) F (value F p) G q))
+      (combine-holds (value G p) (value F q) (value F p) (value G q) held (h .holds q m) out (f .holds q (List·Memᴰ·tail m)));
   rim = λ q m. value-combine (negℤ (value G p)) F (value F p) G q ∙ on q m;
 }
   where
@@ -131,10 +136,12 @@ fewer f = record { proper = f .proper; holds = λ q m. f .holds q (List·Memᴰ�
 pub one-more : {P R : List Point} {F : Lifted} {p : Point} → Feasible P R F → value F p ≤ℤ pos 0 → Feasible (p ∷ P) R F
 one-more {F} f h = record { proper = f .proper; holds = also (λ q. value F q ≤ℤ pos 0) h (f .holds); rim = f .rim }
 
-pub step : {P R : List Point} {F F1 : Lifted} {p : Point} → Below P R F → pos 0 <ℤ value F p → StronglyMinimal P (p ∷ R) F1 → StronglyMinimal (p ∷ P) R F1
+pub step : {P R : List Point} {F F1 : Lifted} {p : Point} → Below P R F → pos 0 <ℤ value F p → StronglyMinimal P (p ∷ R) F1
+    → StronglyMinimal (p ∷ P) R F1
 step {P} {R} {F} {F1} {p} h out s = record {
   feasible = one-more (off-rim (s .feasible)) (≤-of-eq (s .feasible .rim p (List·Memᴰ·head refl)));
-  least = λ G f. combine-least (value G p) (gap F1 F) (value F p) (gap F1 G) (f .holds p (List·Memᴰ·head refl)) (h .under F1 (off-rim (s .feasible))) out
+  least = λ G f. combine-least (value G p) (gap F1 F) (value F p) (gap F1 G) (f .holds p (List·Memᴰ·head refl))
+      (h .under F1 (off-rim (s .feasible))) out
       (subst (λ (z : ℤ). pos 0 ≤ℤ z) (gap-combine F1 (negℤ (value G p)) F (value F p) G) (s .least (through F p G) (to-rim h out f)));
 }
 

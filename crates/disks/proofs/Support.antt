@@ -68,7 +68,8 @@ pub data Supported (P : List Point) (F : Lifted) : Type 0 where
 -- ---- points with different arms are different
 
 opposite-zero : (a b s : ℤ) → a +ℤ a ≡ pos 0 → b +ℤ b ≡ pos 0 → a *ℤ a +ℤ b *ℤ b ≡ s → pos 0 <ℤ s → ⊥
-opposite-zero a b s ha hb e hs = clash (a ∷ b ∷ s ∷ []) (lt hs ⊞ lt hs ⊞ eq (pos 2) e ⊞ eq (negℤ a) ha ⊞ eq (negℤ b) hb ⊞ nn 1) (search poly depth 30) tt
+opposite-zero a b s ha hb e hs = clash (a ∷ b ∷ s ∷ []) (lt hs ⊞ lt hs ⊞ eq (pos 2) e ⊞ eq (negℤ a) ha ⊞ eq (negℤ b) hb ⊞ nn 1)
+    (search poly depth 30) tt
 
 module _ (F : Lifted) where
   opposite-different : (a b : Point) → value F a ≡ pos 0 → pos 0 <ℤ squaredRadius F → Opposite (arm F a) (arm F b) → a ≢ b
@@ -102,7 +103,8 @@ module _ {P : List Point} {F : Lifted} (m : StronglyMinimal P [] F) where
   -- the rim points are not all in one cone
   no-cone : {Q : List Point} → ((p : Point) → In p P → value F p ≡ pos 0 → In p Q) → Cone (arm F) Q → ⊥
   no-cone all k = no-side m (record { x = arm F (k .l) .x +ℤ arm F (k .r) .x; y = arm F (k .l) .y +ℤ arm F (k .r) .y })
-      (λ p i z. subst (λ (w : ℤ). pos 0 <ℤ w) (sym (add-arms (arm F (k .l) .x) (arm F (k .r) .x) (arm F (k .l) .y) (arm F (k .r) .y) (arm F p .x) (arm F p .y))) (k .front p (all p i z)))
+      (λ p i z. subst (λ (w : ℤ). pos 0 <ℤ w)
+      (sym (add-arms (arm F (k .l) .x) (arm F (k .r) .x) (arm F (k .l) .y) (arm F (k .r) .y) (arm F p .x) (arm F p .y))) (k .front p (all p i z)))
 
   module _ (c : Point) (qs : List Point) (inside : (p : Point) → In p (c ∷ qs) → In p P) (on-rim : (p : Point) → In p (c ∷ qs) → value F p ≡ pos 0) (all : (p : Point) → In p P → value F p ≡ pos 0 → In p (c ∷ qs)) where
     proper : pos 0 <ℤ F .e
@@ -118,14 +120,16 @@ module _ {P : List Point} {F : Lifted} (m : StronglyMinimal P [] F) where
     })
     supported-by (around a b d ma mb md h1 h2 h3) hs = three a b d (record {
       members = also (λ p. In p P) (inside a ma) (also (λ p. In p P) (inside b mb) (also (λ p. In p P) (inside d md) (none-of (λ p. In p P))));
-      on-rim = also (λ p. value F p ≡ pos 0) (on-rim a ma) (also (λ p. value F p ≡ pos 0) (on-rim b mb) (also (λ p. value F p ≡ pos 0) (on-rim d md) (none-of (λ p. value F p ≡ pos 0))));
+      on-rim = also (λ p. value F p ≡ pos 0) (on-rim a ma)
+          (also (λ p. value F p ≡ pos 0) (on-rim b mb) (also (λ p. value F p ≡ pos 0) (on-rim d md) (none-of (λ p. value F p ≡ pos 0))));
       different = different-three (turn-different F a b h1) (turn-different F b d h2) (turn-different F d a h3);
       own = three-strong F proper a b d (on-rim a ma) (on-rim b mb) (on-rim d md) h1 h2 h3;
     })
 
     some-rim : Compared (pos 0) (squaredRadius F) → Supported P F
     some-rim (less h) = supported-by (placed (arm F) (squaredRadius F) h c qs (λ p i. rim-length F p (on-rim p i))) h
-    some-rim (more h) = <-≤-clash h (subst (λ (z : ℤ). pos 0 ≤ℤ z) (rim-length F c (on-rim c (List·Memᴰ·head refl))) (sq (arm F c .x) ⊞ sq (arm F c .y)))
+    some-rim (more h) = <-≤-clash h (subst (λ (z : ℤ). pos 0 ≤ℤ z) (rim-length F c (on-rim c (List·Memᴰ·head refl)))
+        (sq (arm F c .x) ⊞ sq (arm F c .y)))
     some-rim (same z) = one c (record {
       members = also (λ p. In p P) (inside c (List·Memᴰ·head refl)) (none-of (λ p. In p P));
       on-rim = also (λ p. value F p ≡ pos 0) at-c (none-of (λ p. value F p ≡ pos 0));
@@ -139,7 +143,8 @@ module _ {P : List Point} {F : Lifted} (m : StronglyMinimal P [] F) where
         zero : (arm F c .x ≡ pos 0) × (arm F c .y ≡ pos 0)
         zero = sum-squares-zero (arm F c .x) (arm F c .y) (rim-length F c at-c ∙ sym z)
 
-  from-rim : (Q : List Point) → ((p : Point) → In p Q → In p P) → ((p : Point) → In p Q → value F p ≡ pos 0) → ((p : Point) → In p P → value F p ≡ pos 0 → In p Q) → Supported P F
+  from-rim : (Q : List Point) → ((p : Point) → In p Q → In p P) → ((p : Point) → In p Q → value F p ≡ pos 0)
+      → ((p : Point) → In p P → value F p ≡ pos 0 → In p Q) → Supported P F
   from-rim [] i o a = absurd (no-side m (record { x = pos 0; y = pos 0 }) (λ p k z. absurd (List·Memᴰ·not-nil (a p k z))))
   from-rim (c ∷ qs) i o a = some-rim c qs i o a (compared (pos 0) (squaredRadius F))
 

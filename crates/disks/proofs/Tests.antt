@@ -43,7 +43,8 @@ value-distance F p = ring (F .e ∷ F .cx ∷ F .cy ∷ F .k ∷ p .x ∷ p .y �
 pub outside-holds : (F : Lifted) (p : Point) → pos 0 <ℤ F .e → outside F p ≡ ltZ (squaredRadius F) (distanceFrom F p)
 unfolding outside
 outside-holds F p he = same-ltZ (pos 0) (value F p) (squaredRadius F) (distanceFrom F p)
-    (more-than (F .e) (value F p) (distanceFrom F p) (squaredRadius F) (value-distance F p) he) (is-more (F .e) (value F p) (distanceFrom F p) (squaredRadius F) (value-distance F p) he)
+    (more-than (F .e) (value F p) (distanceFrom F p) (squaredRadius F) (value-distance F p) he)
+    (is-more (F .e) (value F p) (distanceFrom F p) (squaredRadius F) (value-distance F p) he)
 
 positive-difference : (a b : ℤ) → pos 0 <ℤ (a -ℤ b) → b <ℤ a
 positive-difference a b h = positive (a ∷ b ∷ []) (lt h) (search poly depth 30) tt

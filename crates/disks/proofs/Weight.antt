@@ -38,7 +38,8 @@ module _ (x0 y0 l : ℤ) (hl : pos 0 <ℤ l) where
   rim-weight [] h = zero-small
   rim-weight (a ∷ []) h = one-small
   rim-weight (a ∷ b ∷ []) h = two-small
-  rim-weight (a ∷ b ∷ c ∷ []) h = triple-weight x0 y0 l (≤-of-< hl) a b c (h a (List·Memᴰ·head refl)) (h b (List·Memᴰ·tail (List·Memᴰ·head refl))) (h c (List·Memᴰ·tail (List·Memᴰ·tail (List·Memᴰ·head refl))))
+  rim-weight (a ∷ b ∷ c ∷ []) h = triple-weight x0 y0 l (≤-of-< hl) a b c (h a (List·Memᴰ·head refl)) (h b (List·Memᴰ·tail (List·Memᴰ·head refl)))
+      (h c (List·Memᴰ·tail (List·Memᴰ·tail (List·Memᴰ·head refl))))
   rim-weight (a ∷ b ∷ c ∷ d ∷ R) h = zero-small
 
   boxed-last : (P : List Point) (p : Point) → Boxed P → Box x0 y0 l p → Boxed (P ++ (p ∷ []))
@@ -53,7 +54,8 @@ module _ (x0 y0 l : ℤ) (hl : pos 0 <ℤ l) where
   tested-small true s p again h k a = record { weight = a .weight; boxed = also (Box x0 y0 l) k (a .boxed) }
   tested-small false s p again h k a = record { weight = h .weight; boxed = boxed-last (s .left) p (h .boxed) k }
 
-  one-by-one-small : (f : State → Point → State) → ((s : State) (p : Point) → Small s → Box x0 y0 l p → Small (f s p)) → (s : State) (P : List Point) → Small s → Boxed P → Small (one-by-one f s P)
+  one-by-one-small : (f : State → Point → State) → ((s : State) (p : Point) → Small s → Box x0 y0 l p → Small (f s p)) → (s : State) (P : List Point)
+      → Small s → Boxed P → Small (one-by-one f s P)
   unfolding one-by-one
   one-by-one-small f h s [] k b = k
   one-by-one-small f h s (p ∷ P) k b = one-by-one-small f h (f s p) P (h s p k (b p (List·Memᴰ·head refl))) (λ q i. b q (List·Memᴰ·tail i))
@@ -64,5 +66,6 @@ module _ (x0 y0 l : ℤ) (hl : pos 0 <ℤ l) where
   run-weight (suc k) R P r b = go (λ S Q s q. run-weight k S Q s q)
     where
       go : ((S Q : List Point) → Boxed S → Boxed Q → Small (runWith k S Q)) → Small (one-by-one (turn-at (runWith k) R) (start R []) P)
-      go ih = one-by-one-small (turn-at (runWith k) R) (λ s p h c. tested-small (outside (s .disk) p) s p (runWith k (p ∷ R) (s .left)) h c (ih (p ∷ R) (s .left) (also (Box x0 y0 l) c r) (h .boxed)))
+      go ih = one-by-one-small (turn-at (runWith k) R) (λ s p h c. tested-small (outside (s .disk) p) s p (runWith k (p ∷ R) (s .left)) h c
+          (ih (p ∷ R) (s .left) (also (Box x0 y0 l) c r) (h .boxed)))
           (start R []) P (record { weight = rim-weight R r; boxed = none-of (Box x0 y0 l) }) b
