@@ -13,7 +13,8 @@ use native.Mathlib.Omega.{arith}
 use lib.Dec as D
 use lib.ListN.{length}
 use Rattle.geometry.specs.declared.Point.{Point}
-use Rattle.disks.specs.Support.{before, fronted, choose}
+use Rattle.geometry.specs.Order.{before}
+use Rattle.disks.specs.Support.{fronted, choose}
 use Rattle.disks.specs.FirstSupport.{Rising, Lexical, here, there}
 use Rattle.disks.proofs.Minimal.{In, also}
 use Rattle.disks.proofs.Rising.{before-trans, before-not-equal}

@@ -18,7 +18,8 @@ use Rattle.integers.specs.Bounds.{and-left, and-right}
 use Rattle.integers.specs.Order as O
 use Rattle.integers.specs.Order.{≤-of-eq, ≤-antisym, ≤-refl, <-trans, <-≤-clash, <-≤-trans, ≤-<-trans}
 use Rattle.geometry.specs.declared.Point.{Point}
-use Rattle.disks.specs.Support.{before, eqZ, insert, sorted}
+use Rattle.geometry.specs.Order.{before, eqZ}
+use Rattle.disks.specs.Support.{insert, sorted}
 pub use Rattle.disks.specs.FirstSupport.{Rising}
 use Rattle.disks.proofs.Base.{point-path}
 use Rattle.disks.proofs.Minimal.{In, none-of, also, Same}

@@ -1,4 +1,4 @@
--- The smallest enclosing disk (000, p. 361; 01, "Disk and rim"; demand 2).
+-- The smallest enclosing disk (000, section 2, md(P) and b_md(P, R); 01, "Disk and rim"; demand 2).
 --
 --   RationalDisk           == any disk with a fractional centre (x/e, y/e) and a fractional squared radius a/b
 --   Fits c P R             == the rational disk c holds every point of P and has every point of R on its boundary
