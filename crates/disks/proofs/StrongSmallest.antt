@@ -153,7 +153,7 @@ module _ {P R : List Point} {F : Lifted} {d : Disk} (m : StronglyMinimal P R F) 
 pub strong-smallest : {P R : List Point} {F : Lifted} {d : Disk} → StronglyMinimal P R F → Written F d → SmallestWith P R d
 strong-smallest {P} {R} {F} {d} m w = record {
   proper = written-some (m .feasible .proper) w;
-  lowest = w .lowest;
+  lowest = w .reduced;
   holds-all = λ p i. written-holds (m .feasible .proper) w p (m .feasible .holds p i);
   through-all = λ q i. written-on (m .feasible .proper) w q (m .feasible .rim q i);
   least = λ c f. least m w c f;
