@@ -20,7 +20,7 @@ use Rattle.disks.proofs.Base.{Multiple, pairDisk, pair-first, pair-seco
 use Rattle.disks.proofs.Lists.{perm-same}
 use Rattle.disks.proofs.Unique.{strong-unique, leave-out, square-positive}
 use Rattle.disks.proofs.Arms.{dot, cross, flip}
-use Rattle.disks.proofs.Weights.{arm, rim-length, three-strong}
+use Rattle.disks.proofs.Weights.{arm, boundary-length, three-strong}
 
 abbrev pub corner : Point → Point → Point → ℤ
 corner a b c = (b .x -ℤ a .x) *ℤ (c .x -ℤ a .x) +ℤ (b .y -ℤ a .y) *ℤ (c .y -ℤ a .y)
@@ -36,7 +36,7 @@ pair-own b c = record {
     proper = positive-two;
     holds = also Held (≤-of-eq (pair-first b c))
         (also Held (≤-of-eq (pair-second b c)) (none-of Held));
-    rim = none-of (λ p. value (pairDisk b c) p ≡ pos 0);
+    on-boundary = none-of (λ p. value (pairDisk b c) p ≡ pos 0);
   };
   least = λ G f. subst (λ (z : ℤ). pos 0 ≤ℤ z) (sym (pair-gap b c G))
       (minus-twice (value G b) (value G c) (f .holds b (List·Memᴰ·head refl)) (f .holds c (List·Memᴰ·tail (List·Memᴰ·head refl))));
@@ -164,15 +164,15 @@ module _ (F : Lifted) (proper : pos 0 <ℤ F .e) (a b c : Point) (ha : value F a
   side p q = (q .x -ℤ p .x) *ℤ (q .x -ℤ p .x) +ℤ (q .y -ℤ p .y) *ℤ (q .y -ℤ p .y)
 
   at-a : (pos 2 *ℤ area) *ℤ cross B C ≡ side B C *ℤ corner A B C
-  at-a = turn-corner A B C (squaredRadius F) (rim-length F a ha) (rim-length F b hb) (rim-length F c hc)
+  at-a = turn-corner A B C (squaredRadius F) (boundary-length F a ha) (boundary-length F b hb) (boundary-length F c hc)
 
   at-b : (pos 2 *ℤ area) *ℤ cross C A ≡ side C A *ℤ corner B C A
   at-b = ap (λ (w : ℤ). (pos 2 *ℤ w) *ℤ cross C A) (rotated (cross A B) (cross B C) (cross C A)) ∙ turn-corner B C A (squaredRadius F)
-      (rim-length F b hb) (rim-length F c hc) (rim-length F a ha)
+      (boundary-length F b hb) (boundary-length F c hc) (boundary-length F a ha)
 
   at-c : (pos 2 *ℤ area) *ℤ cross A B ≡ side A B *ℤ corner C A B
   at-c = ap (λ (w : ℤ). (pos 2 *ℤ w) *ℤ cross A B) (sym (rotated (cross C A) (cross A B) (cross B C))) ∙ turn-corner C A B (squaredRadius F)
-      (rim-length F c hc) (rim-length F a ha) (rim-length F b hb)
+      (boundary-length F c hc) (boundary-length F a ha) (boundary-length F b hb)
 
   module _ (ka : pos 0 <ℤ corner a b c) (kb : pos 0 <ℤ corner b c a) (kc : pos 0 <ℤ corner c a b) where
     arm-a : pos 0 <ℤ corner A B C

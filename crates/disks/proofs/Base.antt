@@ -35,8 +35,8 @@ positive-one = positive [] (nn 0) (search poly depth 30) tt
 
 pub point-strong : (q : Point) → StronglyMinimal [] (q ∷ []) (pointDisk q)
 point-strong q = record {
-  feasible = record { proper = positive-one; holds = none-of (λ p. value (pointDisk q) p ≤ℤ pos 0); rim = also On (point-value q) (none-of On) };
-  least = λ G f. ≤-of-eq (sym (point-gap q G ∙ ap negℤ (f .rim q (List·Memᴰ·head refl))));
+  feasible = record { proper = positive-one; holds = none-of (λ p. value (pointDisk q) p ≤ℤ pos 0); on-boundary = also On (point-value q) (none-of On) };
+  least = λ G f. ≤-of-eq (sym (point-gap q G ∙ ap negℤ (f .on-boundary q (List·Memᴰ·head refl))));
 }
   where
     On : Point → Type 0
@@ -67,10 +67,10 @@ pair-strong q r = record {
   feasible = record {
     proper = positive-two;
     holds = none-of (λ p. value (pairDisk q r) p ≤ℤ pos 0);
-    rim = also On (pair-first q r)
+    on-boundary = also On (pair-first q r)
         (also On (pair-second q r) (none-of On));
   };
-  least = λ G f. ≤-of-eq (sym (pair-gap q r G ∙ twice-none (f .rim q (List·Memᴰ·head refl)) (f .rim r (List·Memᴰ·tail (List·Memᴰ·head refl)))));
+  least = λ G f. ≤-of-eq (sym (pair-gap q r G ∙ twice-none (f .on-boundary q (List·Memᴰ·head refl)) (f .on-boundary r (List·Memᴰ·tail (List·Memᴰ·head refl)))));
 }
   where
     On : Point → Type 0

@@ -63,10 +63,10 @@ boundary-point : {P R : List Point} {F : Lifted} → StronglyMinimal P R F → (
 boundary-point {P} {R = []} {F} m = go (support m)
   where
     go : Supported P F → (p : Point) × (value F p ≡ pos 0)
-    go (one a s) = (a, s .on-rim a (List·Memᴰ·head refl))
-    go (two a b s) = (a, s .on-rim a (List·Memᴰ·head refl))
-    go (three a b c s) = (a, s .on-rim a (List·Memᴰ·head refl))
-boundary-point {P} {R = q ∷ R} {F} m = (q, m .feasible .rim q (List·Memᴰ·head refl))
+    go (one a s) = (a, s .on-boundary a (List·Memᴰ·head refl))
+    go (two a b s) = (a, s .on-boundary a (List·Memᴰ·head refl))
+    go (three a b c s) = (a, s .on-boundary a (List·Memᴰ·head refl))
+boundary-point {P} {R = q ∷ R} {F} m = (q, m .feasible .on-boundary q (List·Memᴰ·head refl))
 
 pub strong-written : {P R : List Point} {F : Lifted} → StronglyMinimal P R F → Written F (lowered F)
 strong-written {F} m = let b = boundary-point m in lowered-written F (m .feasible .proper) (b .0) (b .1)

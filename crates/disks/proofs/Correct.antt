@@ -20,7 +20,7 @@ use Rattle.integers.specs.Ring.{poly}
 use Rattle.integers.specs.Order.{≤-of-eq, ≤-trans, nonneg, nn, sq, le, _⊞_, <-≤-clash}
 use Rattle.geometry.specs.declared.Point.{Point}
 use Rattle.disks.proofs.Lifted.{Lifted, value, noDisk, value-none}
-use Rattle.disks.proofs.Minimal.{In, Feasible, StronglyMinimal, Below, Same, same-sym, feasible-same, strong-same, strong-below, none-below, through, to-rim, step, held}
+use Rattle.disks.proofs.Minimal.{In, Feasible, StronglyMinimal, Below, Same, same-sym, feasible-same, strong-same, strong-below, none-below, through, to-boundary, step, held}
 use Rattle.disks.proofs.Base.{point-strong, pair-strong, positive-one}
 use Rattle.disks.proofs.Triple.{Different, triple-strong}
 use Rattle.disks.proofs.LiftedProcedure.{State, rimDisk, outside, tested, turn-at, one-by-one, start, runWith, run, mtf, most}
@@ -78,7 +78,7 @@ Right k = (R P : List Point) (W : Lifted) → Feasible P R W → Different R →
 
 -- a point outside is none of R
 outside-new : {P R : List Point} {F : Lifted} {p : Point} → Below P R F → pos 0 <ℤ value F p → In p R → ⊥
-outside-new {p} h out m = <-≤-clash out (≤-of-eq (h .rim p m))
+outside-new {p} h out m = <-≤-clash out (≤-of-eq (h .on-boundary p m))
 
 most-next : (k n : ℕ) → most (suc k) (n + 1) ≡ most (suc k) n + 1 + most k n
 unfolding most
@@ -103,7 +103,7 @@ module _ (k : ℕ) (R Q : List Point) (p : Point) (s : State) (W : Lifted) (righ
   -- p is outside: what the inner run asks
   pub inner-feasible : pos 0 <ℤ value (s .disk) p → Feasible (s .left) (p ∷ R) (through (s .disk) p W)
   inner-feasible out = feasible-same (same-sym (perm-same (r .left-permuted)))
-      (to-rim (found-below (r .disk-found)) out (feasible-same (same-sym same-last) f))
+      (to-boundary (found-below (r .disk-found)) out (feasible-same (same-sym same-last) f))
 
   pub inner-different : pos 0 <ℤ value (s .disk) p → Different (p ∷ R)
   inner-different out = ((λ m. outside-new (found-below (r .disk-found)) out m), d)
@@ -141,7 +141,7 @@ module _ (k : ℕ) (R Q : List Point) (p : Point) (s : State) (W : Lifted) (righ
 
 -- a part of what is held is held
 pub feasible-front : (Q S : List Point) {R : List Point} {W : Lifted} → Feasible (Q ++ S) R W → Feasible Q R W
-feasible-front Q S f = record { proper = f .proper; holds = λ q m. f .holds q (Memᴰ·append-left S m); rim = f .rim }
+feasible-front Q S f = record { proper = f .proper; holds = λ q m. f .holds q (Memᴰ·append-left S m); on-boundary = f .on-boundary }
 
 pub next : (Q ps : List Point) (p : Point) → (Q ++ (p ∷ [])) ++ ps ≡ Q ++ (p ∷ ps)
 next Q ps p = append-assoc Q (p ∷ []) ps
@@ -213,7 +213,7 @@ pub large-feasible : (P : List Point) → Feasible P [] (large P)
 large-feasible P = record {
   proper = positive-one;
   holds = λ p m. large-value (p .x) (p .y) (reach P) (reach-in P p m);
-  rim = λ q m. absurd
+  on-boundary = λ q m. absurd
       (List·Memᴰ·not-nil m);
 }
 

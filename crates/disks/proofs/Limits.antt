@@ -76,7 +76,7 @@ centre-side {P} {F} s u v t hn h = above F u v t (go (≤-or-< (pos 0) (over F u
       proper = push-weight n (F .e) hn (s .feasible .proper);
       holds = λ p i. subst (λ (z : ℤ). z ≤ℤ pos 0) (sym (G-value p))
           (push-holds n (value F p) m (u *ℤ p .x +ℤ v *ℤ p .y) t hn (s .feasible .holds p i) hm (h p i));
-      rim = λ q i. absurd (List·Memᴰ·not-nil i);
+      on-boundary = λ q i. absurd (List·Memᴰ·not-nil i);
     }
 
     go : (pos 0 ≤ℤ over F u v t) ⊎ (over F u v t <ℤ pos 0) → pos 0 ≤ℤ over F u v t

@@ -20,7 +20,7 @@ use Rattle.geometry.specs.declared.Disk.{Disk}
 use Rattle.geometry.specs.Plane.{distance}
 use Rattle.disks.specs.Procedure.{lowestTerms}
 use Rattle.disks.proofs.Lifted.{Lifted, value, squaredRadius}
-use Rattle.disks.proofs.Weights.{rim-length}
+use Rattle.disks.proofs.Weights.{boundary-length}
 
 abbrev pub lowered : Lifted → Disk
 lowered F = lowestTerms (F .cx) (F .cy) (natAbs (F .e)) (natAbs (squaredRadius F))
@@ -89,7 +89,7 @@ module _ (F : Lifted) (proper : pos 0 <ℤ F .e) (p : Point) (on : value F p ≡
   radius-divided : squaredRadius F ≡ pos (g * g * whole .0)
   radius-divided =
       divided-radius (F .e) (F .cx) (F .cy) (squaredRadius F) (pos g) (pos (l .e)) (l .x) (l .y) (p .x) (p .y) e-exact x-exact y-exact
-      (rim-length F p on)
+      (boundary-length F p on)
       ∙ ap (λ (z : ℤ). (pos g *ℤ pos g) *ℤ z) (whole .1)
 
   s-exact : natAbs (squaredRadius F) / (g * g) ≡ whole .0

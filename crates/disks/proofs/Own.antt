@@ -78,7 +78,7 @@ point-own a = record {
   feasible = record {
     proper = positive-one;
     holds = also Held (≤-of-eq (point-value a)) (none-of Held);
-    rim = none-of
+    on-boundary = none-of
         (λ p. value (pointDisk a) p ≡ pos 0);
   };
   least = λ G f. subst (λ (z : ℤ). pos 0 ≤ℤ z) (sym (point-gap a G)) (minus (value G a) (f .holds a (List·Memᴰ·head refl)));

@@ -54,7 +54,7 @@ lift-feasible {P} {R} {c} f = record {
   proper = *-pos (*-pos (some-positive (c .e-some)) (some-positive (c .e-some))) (some-positive (c .b-some));
   holds = λ p m. subst (λ (z : ℤ). z ≤ℤ pos 0) (sym (lift-value (c .x) (c .y) (pos (c .e)) (c .a) (pos (c .b)) p))
       (below-zero (far c p) (reach c) (f .holds-all p m));
-  rim = λ q m. lift-value (c .x) (c .y) (pos (c .e)) (c .a) (pos (c .b)) q ∙ at-zero (far c q) (reach c) (f .through-all q m);
+  on-boundary = λ q m. lift-value (c .x) (c .y) (pos (c .e)) (c .a) (pos (c .b)) q ∙ at-zero (far c q) (reach c) (f .through-all q m);
 }
 
 -- ---- value, and the tests of specs/
@@ -155,7 +155,7 @@ strong-smallest {P} {R} {F} {d} m w = record {
   proper = written-some (m .feasible .proper) w;
   lowest = w .reduced;
   holds-all = λ p i. written-holds (m .feasible .proper) w p (m .feasible .holds p i);
-  through-all = λ q i. written-on (m .feasible .proper) w q (m .feasible .rim q i);
+  through-all = λ q i. written-on (m .feasible .proper) w q (m .feasible .on-boundary q i);
   least = λ c f. least m w c f;
   only = λ c f e. only m w c f e;
 }

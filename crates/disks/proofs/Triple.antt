@@ -125,7 +125,7 @@ turned-proper F n = go (ltZ (F .e) (pos 0)) (λ t. record { lt = t }) (λ t. ltZ
     go false f g (same h) = absurd (n h)
     go false f g (more h) = h
 
--- ---- three different points that some disk has on its rim are not in a row
+-- ---- three different points that some disk has on its boundary are not in a row
 
 row-product : (ux uy vx vy gx gy e : ℤ) → e *ℤ (ux *ℤ ux +ℤ uy *ℤ uy) ≡ pos 2 *ℤ (gx *ℤ ux +ℤ gy *ℤ uy)
     → e *ℤ (vx *ℤ vx +ℤ vy *ℤ vy) ≡ pos 2 *ℤ (gx *ℤ vx +ℤ gy *ℤ vy)
@@ -138,7 +138,7 @@ row-lengths : (ux uy vx vy : ℤ) → ux *ℤ (ux -ℤ vx) +ℤ uy *ℤ (uy -ℤ
 row-lengths ux uy vx vy hd hw = linear (ux ∷ uy ∷ vx ∷ vy ∷ [])
     (eqn (ux *ℤ (ux -ℤ vx) +ℤ uy *ℤ (uy -ℤ vy)) hd & eqn (ux *ℤ vy -ℤ uy *ℤ vx) hw) (search poly depth 30) tt
 
--- on the rim with a: a chord, and the centre seen from a
+-- on the boundary with a: a chord, and the centre seen from a
 chord : (G : Lifted) (a b : Point) → value G a ≡ pos 0 → value G b ≡ pos 0
     → G .e *ℤ (ux a b *ℤ ux a b +ℤ uy a b *ℤ uy a b) ≡ pos 2 *ℤ ((G .cx -ℤ a .x *ℤ G .e) *ℤ ux a b +ℤ (G .cy -ℤ a .y *ℤ G .e) *ℤ uy a b)
 chord G a b ha hb = linear (G .e ∷ G .cx ∷ G .cy ∷ G .k ∷ a .x ∷ a .y ∷ b .x ∷ b .y ∷ []) (eqn (pos 1) hb & eqn (negsuc 0) ha)
@@ -158,13 +158,13 @@ not-in-row {P} {a} {b} {c} {G} f d w = lengths
     (chord G a c ha hc) w))
   where
     ha : value G a ≡ pos 0
-    ha = f .rim a (List·Memᴰ·head refl)
+    ha = f .on-boundary a (List·Memᴰ·head refl)
 
     hb : value G b ≡ pos 0
-    hb = f .rim b (List·Memᴰ·tail (List·Memᴰ·head refl))
+    hb = f .on-boundary b (List·Memᴰ·tail (List·Memᴰ·head refl))
 
     hc : value G c ≡ pos 0
-    hc = f .rim c (List·Memᴰ·tail (List·Memᴰ·tail (List·Memᴰ·head refl)))
+    hc = f .on-boundary c (List·Memᴰ·tail (List·Memᴰ·tail (List·Memᴰ·head refl)))
 
     a≢b : a ≢ b
     a≢b e = d .0 (List·Memᴰ·head e)
@@ -200,7 +200,7 @@ turn-weight a b c n z = go (zero-product (pos 2) (turn a b c) z)
 pub triple-strong : {P : List Point} {a b c : Point} {G : Lifted} → Feasible P (a ∷ b ∷ c ∷ []) G → Different (a ∷ b ∷ c ∷ [])
     → StronglyMinimal P (a ∷ b ∷ c ∷ []) (tripleDisk a b c)
 triple-strong {P} {a} {b} {c} {G} f d = record {
-  feasible = record { proper = proper; holds = λ p m. holds-by proper (f .proper) (multiple-value (only G f) p) (f .holds p m); rim = on };
+  feasible = record { proper = proper; holds = λ p m. holds-by proper (f .proper) (multiple-value (only G f) p) (f .holds p m); on-boundary = on };
   least = λ H h. ≤-of-eq (sym (multiple-no-gap proper (only H h)));
 }
   where
@@ -212,8 +212,8 @@ triple-strong {P} {a} {b} {c} {G} f d = record {
 
     only : (H : Lifted) → Feasible P (a ∷ b ∷ c ∷ []) H → Multiple (tripleDisk a b c) H
     only H h = turned-multiple s (circle a b c) H
-        (circle-only a b c H (h .rim a (List·Memᴰ·head refl)) (h .rim b (List·Memᴰ·tail (List·Memᴰ·head refl)))
-        (h .rim c (List·Memᴰ·tail (List·Memᴰ·tail (List·Memᴰ·head refl)))))
+        (circle-only a b c H (h .on-boundary a (List·Memᴰ·head refl)) (h .on-boundary b (List·Memᴰ·tail (List·Memᴰ·head refl)))
+        (h .on-boundary c (List·Memᴰ·tail (List·Memᴰ·tail (List·Memᴰ·head refl)))))
 
     On : Point → Type 0
     On q = value (tripleDisk a b c) q ≡ pos 0

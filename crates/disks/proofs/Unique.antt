@@ -81,7 +81,7 @@ strong-multiple {P} {R} {F} {G} m hg u = record {
   feasible = record {
     proper = hg;
     holds = λ p i. holds-by hg (m .feasible .proper) (multiple-value (multiple-sym u) p) (m .feasible .holds p i);
-    rim = λ q i. value-none-by (F .e) (G .e) (value F q) (value G q) (multiple-value u q) (m .feasible .proper) (m .feasible .rim q i);
+    on-boundary = λ q i. value-none-by (F .e) (G .e) (value F q) (value G q) (multiple-value u q) (m .feasible .proper) (m .feasible .on-boundary q i);
   };
   least = λ H f. least-by (F .e *ℤ F .e) (G .e *ℤ G .e) (gap G H) (gap F H) (multiple-gaps F G H u) (square-positive (m .feasible .proper))
       (square-positive hg) (m .least H f);
@@ -101,7 +101,7 @@ push-inner v t hv = nonneg-by (v ∷ t ∷ []) (pos 2) positive-two (nn 2 ⊠ ((
 
 pub leave-out : {P : List Point} {F : Lifted} {p : Point} → StronglyMinimal (p ∷ P) [] F → value F p <ℤ pos 0 → StronglyMinimal P [] F
 leave-out {P} {F} {p} m h = record {
-  feasible = record { proper = m .feasible .proper; holds = λ q i. m .feasible .holds q (List·Memᴰ·tail i); rim = m .feasible .rim };
+  feasible = record { proper = m .feasible .proper; holds = λ q i. m .feasible .holds q (List·Memᴰ·tail i); on-boundary = m .feasible .on-boundary };
   least = λ G f. subst (λ (z : ℤ). pos 0 ≤ℤ z) (gap-combine F (n G) F (pos 1) G ∙ ap (λ (z : ℤ). n G *ℤ z +ℤ pos 1 *ℤ gap F G) (gap-self F)
       ∙ only (n G) (gap F G)) (m .least (combine (n G) F (pos 1) G) (pushed G f));
 }
@@ -121,5 +121,5 @@ leave-out {P} {F} {p} m h = record {
       holds = also (Held G) (subst (λ (z : ℤ). z ≤ℤ pos 0) (sym (value-combine (n G) F (pos 1) G p)) (push-inner (value F p) (value G p) h))
           (λ q i. subst (λ (z : ℤ). z ≤ℤ pos 0) (sym (value-combine (n G) F (pos 1) G q))
           (push-holds (value F q) (value G q) (value G p) (m .feasible .holds q (List·Memᴰ·tail i)) (f .holds q i)));
-      rim = λ q i. absurd (List·Memᴰ·not-nil i);
+      on-boundary = λ q i. absurd (List·Memᴰ·not-nil i);
     }

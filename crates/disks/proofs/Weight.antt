@@ -33,14 +33,14 @@ module _ (x0 y0 l : ℤ) (hl : pos 0 <ℤ l) where
   two-small : pos 2 ≤ℤ (pos 2 *ℤ (l *ℤ l))
   two-small = nonneg (l ∷ []) (nn 2 ⊠ (lt hl ⊠ lt hl) ⊞ nn 4 ⊠ lt hl) (search poly depth 30) tt
 
-  rim-weight : (R : List Point) → Boxed R → rimDisk R .e ≤ℤ (pos 2 *ℤ (l *ℤ l))
+  boundary-weight : (R : List Point) → Boxed R → rimDisk R .e ≤ℤ (pos 2 *ℤ (l *ℤ l))
   unfolding rimDisk
-  rim-weight [] h = zero-small
-  rim-weight (a ∷ []) h = one-small
-  rim-weight (a ∷ b ∷ []) h = two-small
-  rim-weight (a ∷ b ∷ c ∷ []) h = triple-weight x0 y0 l (≤-of-< hl) a b c (h a (List·Memᴰ·head refl)) (h b (List·Memᴰ·tail (List·Memᴰ·head refl)))
+  boundary-weight [] h = zero-small
+  boundary-weight (a ∷ []) h = one-small
+  boundary-weight (a ∷ b ∷ []) h = two-small
+  boundary-weight (a ∷ b ∷ c ∷ []) h = triple-weight x0 y0 l (≤-of-< hl) a b c (h a (List·Memᴰ·head refl)) (h b (List·Memᴰ·tail (List·Memᴰ·head refl)))
       (h c (List·Memᴰ·tail (List·Memᴰ·tail (List·Memᴰ·head refl))))
-  rim-weight (a ∷ b ∷ c ∷ d ∷ R) h = zero-small
+  boundary-weight (a ∷ b ∷ c ∷ d ∷ R) h = zero-small
 
   boxed-last : (P : List Point) (p : Point) → Boxed P → Box x0 y0 l p → Boxed (P ++ (p ∷ []))
   boxed-last P p h k q i = go (List·Memᴰ·append-cases P i)
@@ -62,10 +62,10 @@ module _ (x0 y0 l : ℤ) (hl : pos 0 <ℤ l) where
 
   pub run-weight : (k : ℕ) (R P : List Point) → Boxed R → Boxed P → Small (runWith k R P)
   unfolding runWith turn-at
-  run-weight zero R P r b = record { weight = rim-weight R r; boxed = b }
+  run-weight zero R P r b = record { weight = boundary-weight R r; boxed = b }
   run-weight (suc k) R P r b = go (λ S Q s q. run-weight k S Q s q)
     where
       go : ((S Q : List Point) → Boxed S → Boxed Q → Small (runWith k S Q)) → Small (one-by-one (turn-at (runWith k) R) (start R []) P)
       go ih = one-by-one-small (turn-at (runWith k) R) (λ s p h c. tested-small (outside (s .disk) p) s p (runWith k (p ∷ R) (s .left)) h c
           (ih (p ∷ R) (s .left) (also (Box x0 y0 l) c r) (h .boxed)))
-          (start R []) P (record { weight = rim-weight R r; boxed = none-of (Box x0 y0 l) }) b
+          (start R []) P (record { weight = boundary-weight R r; boxed = none-of (Box x0 y0 l) }) b

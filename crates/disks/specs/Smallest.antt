@@ -55,6 +55,7 @@ pub record Fits (c : RationalDisk) (P R : List Point) : Type 0 where
 
 pub record SmallestWith (P R : List Point) (d : Disk) : Type 0 where
   pub proper : 1 ≤ d .e
+  -- no whole number above 1 divides X, Y and E all together
   pub lowest : Reduced (d .x) (d .y) (d .e)
   pub holds-all : (p : Point) → In p P → T (holds d p)
   pub through-all : (q : Point) → In q R → onBoundary d q
