@@ -1,5 +1,5 @@
 -- Demand 2 holds (specs/Demand2.antt).
-use mathlib.Core.Path.{_≡_, refl, sym, subst}
+use mathlib.Core.Path.{_≡_, refl, sym, ap, _∙_, subst}
 use mathlib.Core.Bool.{true}
 use mathlib.Core.List.{List, [], _∷_}
 use lib.IntN.{ℤ}
@@ -17,6 +17,9 @@ use Rattle.disks.proofs.First.{first-support, first-unique}
 use Rattle.engine.specs.Engine.{Enclosure, enclosure, encloseOf}
 use Rattle.engine.proofs.Found.{box-members}
 use Rattle.engine.proofs.Accepted.{Accepted, accepted-list, has-point}
+use Rattle.record.specs.Reading.{readOf}
+use Rattle.record.proofs.RoundTrip.{read-written, written-again}
+use Rattle.claims.proofs.Records.{written, written-valid, filled}
 use Rattle.claims.specs.Demand2.{EngineIsRight, RecordsGoRound, Demand2}
 
 right : (P : List Point) → (P ≡ [] → ⊥) → allInEmBox P ≡ true → EngineIsRight P (enclosure P)
@@ -33,3 +36,15 @@ engine-right : (l : List ℤ) (e : Enclosure) → encloseOf l ≡ given e → En
 engine-right l e h =
     let a = accepted-list l e h in
     subst (EngineIsRight (points l)) (sym (a .answer)) (right (points l) (has-point l (a .even) (a .some)) (a .boxed))
+
+records-go-round : RecordsGoRound
+records-go-round = record {
+  read-back = λ d ps buf e. ap readOf (filled d ps buf e) ∙ read-written d ps (written-valid d ps buf e .1);
+  write-back = λ bs bytes d ps e buf h.
+      let again = written-again bs bytes d ps e in
+      let done = written d ps buf (again .0) h in
+      (done, filled d ps buf done ∙ again .1);
+}
+
+pub demand-two : Demand2
+demand-two = record { engine = engine-right; records = records-go-round }
