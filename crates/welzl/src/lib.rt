@@ -192,27 +192,29 @@ pub fn move_to_front(list: &mut [i16], i: usize)
     list[1] = y;
 }
 
-// B_MTFDISK on the first n points of the list, with R fixed on the boundary.
+// B_MTFDISK on the first n points of the list, with R fixed on the boundary. Each of them is tested once here, and `inner` counts the tests of the calls.
 pub fn mtf(list: &mut [i16], n: usize, fixed: Boundary) -> RelativeRun
     requires { ⌜ Given fixed n (now list) ⌝ }
     ensures { λ r. ⌜ Ran fixed n (now (list .entry)) (now (list .exit)) (r .disk) (r .tests) ⌝ }
 {
     let mut disk = boundary_disk(fixed);
-    let mut tests: u64 = 0;
     if room(fixed) == 0 {
-        return RelativeRun { disk, tests };
+        return RelativeRun { disk, tests: 0 };
     }
+    let mut inner: u64 = 0;
     for i in 0..n {
         let p = geometry::point_at(list, i);
-        tests += 1;
         if is_outside(disk, p) {
             let again = mtf(list, i, add_point(fixed, p));
             disk = again.disk;
-            tests += again.tests;
+            inner += again.tests;
             move_to_front(list, i);
         }
     }
-    RelativeRun { disk, tests }
+    RelativeRun {
+        disk,
+        tests: inner + n as u64,
+    }
 }
 
 // Centre (x/e, y/e) and squared radius s/e², without a common divisor of x, y and e.

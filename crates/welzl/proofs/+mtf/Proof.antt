@@ -1,5 +1,5 @@
 -- `welzl::mtf`, which calls itself, meets its contract. The measure is the room that is left in R.
--- The loop's invariant is the promise itself, for the first i points.
+-- The loop's invariant is the promise itself, for the first i points, each of them tested once.
 use borrow.Author.Needs.{needs}
 use mathlib.Core.Path.{_≡_, sym, ap, _∙_}
 use mathlib.Core.Logic.{⊎-elim}
@@ -60,10 +60,16 @@ claims t = (
 )
 
 abbrev Inv-loop : lts.InvT-loop
-Inv-loop list₀ n fixed disk₀ tests₀ i₀ list disk tests i = (i ≤ n) × Ran fixed i list₀ list disk tests
+Inv-loop list₀ n fixed disk₀ inner₀ i₀ list disk inner i = (i ≤ n) × Ran fixed i list₀ list disk (inner + i)
 
 abbrev μ-loop : lts.MeasureT-loop
-μ-loop list₀ n fixed disk₀ tests₀ i₀ list disk tests i = n - i
+μ-loop list₀ n fixed disk₀ inner₀ i₀ list disk inner i = n - i
+
+kept-sum : (k i : ℕ) → k + (i + 1) ≡ k + i + 1
+kept-sum k i = omega arith
+
+moved-sum : (k m i : ℕ) → k + m + (i + 1) ≡ k + i + 1 + m
+moved-sum k m i = omega arith
 
 module _ (t : ℕ) where
   -- at the loop's head: the list has its length, the tests are far from wrapping, and R has room
@@ -73,12 +79,12 @@ module _ (t : ℕ) where
   kept : (c : At) → length (c .loop .list) ≡ length (c .before .before .before .before .args .list .now)
   kept c =
       let s = c .before .before .before .before in
-      ran-length (s .args .fixed) (c .loop .i) (s .args .list .now) (c .loop .list) (c .loop .disk) (c .loop .tests) (omega arith) (c .loop .inv .1)
+      ran-length (s .args .fixed) (c .loop .i) (s .args .list .now) (c .loop .list) (c .loop .disk) (c .loop .inner + c .loop .i) (omega arith) (c .loop .inv .1)
 
-  counted : (c : At) → c .loop .tests < 2 ^ 36
+  counted : (c : At) → c .loop .inner + c .loop .i < 2 ^ 36
   counted c =
       let s = c .before .before .before .before in
-      ran-tests (s .args .fixed) (c .loop .i) (s .args .list .now) (c .loop .list) (c .loop .disk) (c .loop .tests) (omega arith) (c .loop .inv .1) (omega arith)
+      ran-tests (s .args .fixed) (c .loop .i) (s .args .list .now) (c .loop .list) (c .loop .disk) (c .loop .inner + c .loop .i) (omega arith) (c .loop .inv .1) (omega arith)
 
   more : (c : At) → roomIn (c .before .before .before .before .args .fixed) ≡ 0 → ⊥
   more c e = c .before .if1 .left (c .before .before .room .ensures ∙ e)
@@ -94,7 +100,7 @@ module _ (t : ℕ) where
   same-point c =
       let at = c .before in
       let s = at .before .before .before .before in
-      point-same (s .args .fixed) (at .loop .i) (s .args .list .now) (at .loop .list) (at .loop .disk) (at .loop .tests) (more at) (fits c) (at .loop .inv .1)
+      point-same (s .args .fixed) (at .loop .i) (s .args .list .now) (at .loop .list) (at .loop .disk) (at .loop .inner + at .loop .i) (more at) (fits c) (at .loop .inv .1)
 
   boxed : (c : InLoop) → inEmBox (pointAt (c .before .before .before .before .before .args .list .now) (c .before .loop .i)) ≡ true
   boxed c =
@@ -135,9 +141,6 @@ module _ (t : ℕ) where
   point-at-requires : lts.Need-point-at-requires (claims t) (mtf-at t) mtf.Post Inv-loop μ-loop
   point-at-requires c κs = omega (arith, kept (c .before .before))
 
-  add-tests : lts.Need-add-tests (claims t) (mtf-at t) mtf.Post Inv-loop μ-loop
-  add-tests c = omega (arith, counted (c .before .before .before))
-
   is-outside-requires : lts.Need-is-outside-requires (claims t) (mtf-at t) mtf.Post Inv-loop μ-loop
   is-outside-requires c κs =
       let inside = c .before .before in
@@ -160,12 +163,12 @@ module _ (t : ℕ) where
           few = omega (arith, inside .loop-test .taken, s .pre .1 .few);
           fits = omega (arith, kept at, fits inside);
           fixed-boxed = rw (c .add-point .ensures, p-is) (added-boxed R (pointAt l i) (s .pre .1 .fixed-boxed) (boxed inside));
-          list-boxed = prefix-boxed R i l (at .loop .list) (at .loop .disk) (at .loop .tests) (more at) (fits inside) (at .loop .inv .1) (s .args .n) (at .loop .inv .0) (s .pre .1 .list-boxed);
+          list-boxed = prefix-boxed R i l (at .loop .list) (at .loop .disk) (at .loop .inner + at .loop .i) (more at) (fits inside) (at .loop .inv .1) (s .args .n) (at .loop .inv .0) (s .pre .1 .list-boxed);
         },
       )
 
-  add-tests-2 : lts.Need-add-tests-2 (claims t) (mtf-at t) mtf.Post Inv-loop μ-loop
-  add-tests-2 c =
+  add-inner : lts.Need-add-inner (claims t) (mtf-at t) mtf.Post Inv-loop μ-loop
+  add-inner c =
       let m = c .before .before .before in
       let at = head m in
       omega (
@@ -197,15 +200,18 @@ module _ (t : ℕ) where
         ⊎-elim
             (λ w.
             let m : Called = record { before = record { before = record { before = record { before = c .before; if2 = w .0 }; mtf-arg = w .1 }; add-point = w .2 }; mtf = w .3 } in
-            rw (w .10, w .8 .ensures, w .11, w .12)
-            (ran-moved (s .args .fixed) (at .loop .i) (s .args .list .now) (at .loop .list) (at .loop .disk) (at .loop .tests) (more at) (fits inside) (at .loop .inv .1)
+            rw (w .10, w .8 .ensures, w .11, w .12, moved-sum (at .loop .inner) (w .3 .result .tests) (at .loop .i))
+            (ran-moved (s .args .fixed) (at .loop .i) (s .args .list .now) (at .loop .list) (at .loop .disk) (at .loop .inner + at .loop .i) (more at) (fits inside) (at .loop .inv .1)
             (w .3 .last .0) (w .3 .result .disk) (w .3 .result .tests) (boxed inside) (tested ∙ w .0 .taken) (again m)))
             (λ w.
-            rw (w .1, w .2, w .3)
-            (ran-kept (s .args .fixed) (at .loop .i) (s .args .list .now) (at .loop .list) (at .loop .disk) (at .loop .tests) (more at) (fits inside) (at .loop .inv .1)
+            rw (w .1, w .2, w .3, kept-sum (at .loop .inner) (at .loop .i))
+            (ran-kept (s .args .fixed) (at .loop .i) (s .args .list .now) (at .loop .list) (at .loop .disk) (at .loop .inner + at .loop .i) (more at) (fits inside) (at .loop .inv .1)
             (boxed inside) (tested ∙ w .0 .left)))
             (c .if2 .came),
       )
+
+  add-total : lts.Need-add-t22 (claims t) (mtf-at t) mtf.Post Inv-loop μ-loop
+  add-total c = omega (arith, counted (c .before))
 
   same-length : lts.Need-same-length (claims t) (mtf-at t) mtf.Post Inv-loop μ-loop
   same-length c = kept (c .before)
@@ -225,14 +231,14 @@ pub +mtf-spec : {M : Type 1} → statement M
     (returns t)
     (loop-holds t)
     (point-at-requires t)
-    (add-tests t)
     (is-outside-requires t)
     (add-point-requires t)
     (mtf-requires t)
-    (add-tests-2 t)
+    (add-inner t)
     (move-to-front-requires t)
     (add-i t)
     (loop-less t)
     (loop-again t)
+    (add-total t)
     (same-length t)
     (returns-2 t)
