@@ -16,13 +16,13 @@ use Rattle.disks.proofs.Smallest.{distance, lower, value-distance}
 use Rattle.disks.proofs.Relative.{relative, relative-value}
 use Rattle.disks.proofs.LiftedProcedure.{outside}
 
-same-test : (a b : Bool) → (T a → T b) → (T b → T a) → a ≡ b
+pub same-test : (a b : Bool) → (T a → T b) → (T b → T a) → a ≡ b
 same-test true true f g = refl
 same-test true false f g = absurd (f tt)
 same-test false true f g = absurd (g tt)
 same-test false false f g = refl
 
-same-ltZ : (a b c d : ℤ) → (a <ℤ b → c <ℤ d) → (c <ℤ d → a <ℤ b) → ltZ a b ≡ ltZ c d
+pub same-ltZ : (a b c d : ℤ) → (a <ℤ b → c <ℤ d) → (c <ℤ d → a <ℤ b) → ltZ a b ≡ ltZ c d
 same-ltZ a b c d f g = same-test (ltZ a b) (ltZ c d) (λ t. f (record { lt = t }) .lt) (λ t. g (record { lt = t }) .lt)
 
 more-than : (e v d s : ℤ) → e *ℤ v ≡ d -ℤ s → pos 0 <ℤ e → pos 0 <ℤ v → s <ℤ d

@@ -22,10 +22,10 @@ use Rattle.disks.proofs.Base.{Multiple, multiple-value, multiple-no-gap
 
 -- ---- the form
 
-abbrev ux : Point → Point → ℤ
+abbrev pub ux : Point → Point → ℤ
 ux a b = b .x -ℤ a .x
 
-abbrev uy : Point → Point → ℤ
+abbrev pub uy : Point → Point → ℤ
 uy a b = b .y -ℤ a .y
 
 abbrev pub norm : ℤ → ℤ → ℤ
@@ -36,10 +36,10 @@ abbrev pub turn : Point → Point → Point → ℤ
 turn a b c = (b .x -ℤ a .x) *ℤ (c .y -ℤ a .y) -ℤ (b .y -ℤ a .y) *ℤ (c .x -ℤ a .x)
 
 -- relative to the first point, twice its turn away
-abbrev gx : Point → Point → Point → ℤ
+abbrev pub gx : Point → Point → Point → ℤ
 gx a b c = norm (ux a b) (uy a b) *ℤ uy a c -ℤ norm (ux a c) (uy a c) *ℤ uy a b
 
-abbrev gy : Point → Point → Point → ℤ
+abbrev pub gy : Point → Point → Point → ℤ
 gy a b c = norm (ux a c) (uy a c) *ℤ ux a b -ℤ norm (ux a b) (uy a b) *ℤ ux a c
 
 -- the form that vanishes at the three: a disk if they turn left
