@@ -1,1 +1,3 @@
 pub mod Numbers
+pub mod PointRows
+pub mod Placing
