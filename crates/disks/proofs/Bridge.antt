@@ -19,7 +19,7 @@ use lib.Signed.{_≤ℤ_, _<ℤ_, ltZ, leZ, ltZ-no, quotZ}
 use Rattle.integers.specs.Between.{below, not-below}
 use Rattle.integers.specs.Gcd.{gcd, steps}
 use Rattle.integers.specs.Ring.{ring, poly}
-use Rattle.integers.specs.Order.{positive, lt, eq, nn, _⊞_, _⊠_, <-cancel, *-pos, pos-le, ≤-to-<}
+use Rattle.integers.specs.Order.{positive, lt, eq, nn, _⊞_, _⊠_, <-cancel}
 use Rattle.geometry.specs.declared.Point.{Point}
 use Rattle.geometry.specs.declared.Disk.{Disk}
 use Rattle.geometry.specs.Plane.{distance, holds}
@@ -33,7 +33,7 @@ use Rattle.disks.proofs.LiftedProcedure as L
 use Rattle.disks.proofs.Correct.{Found, found, nothing, base-found, full-found, Ran, Right, turn-ran, inner-feasible, inner-different, feasible-front, next, run-ran, large-feasible, mtf-strong}
 use Rattle.disks.proofs.Support.{Supported, one, two, three, support}
 use Rattle.disks.proofs.Tests.{same-test, same-ltZ, outside-none}
-use Rattle.disks.proofs.LowestTerms.{lowered, Written, lowered-written, written-value}
+use Rattle.disks.proofs.LowestTerms.{lowered, Written, lowered-written, written-value, square-factor}
 
 -- ---- the cover
 
@@ -85,9 +85,6 @@ more-by E v n d s q hE hn hv = <-cancel hn (positive (E ∷ v ∷ n ∷ d ∷ s 
 
 positive-by : (E v n d s : ℤ) → E *ℤ v ≡ n *ℤ (d -ℤ s) → pos 0 <ℤ E → pos 0 <ℤ n → s <ℤ d → pos 0 <ℤ v
 positive-by E v n d s q hE hn h = <-cancel hE (positive (E ∷ v ∷ n ∷ d ∷ s ∷ []) (lt hn ⊠ lt h ⊞ lt hn ⊞ lt h ⊞ eq (pos 1) q) (search poly depth 30) tt)
-
-pub square-factor : {F : Lifted} {d : Disk} (w : Written F d) → pos 0 <ℤ (pos (w .g) *ℤ pos (w .g))
-square-factor w = *-pos (≤-to-< (pos-le (w .g-some))) (≤-to-< (pos-le (w .g-some)))
 
 outside-written : {F : Lifted} {d : Disk} → pos 0 <ℤ F .e → Written F d → (p : Point) → outside (disk d) p ≡ L.outside F p
 unfolding outside holds L.outside

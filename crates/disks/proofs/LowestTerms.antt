@@ -15,7 +15,7 @@ use Rattle.integers.specs.Abs.{abs-*}
 use Rattle.integers.specs.Gcd.{gcd, gcd-is}
 use Rattle.integers.specs.Laws.{*-neg}
 use Rattle.integers.specs.Ring.{ring, poly, linear, eqn, _&_}
-use Rattle.integers.specs.Order.{nn-is, le-pos, <-to-≤, sq, _⊞_}
+use Rattle.integers.specs.Order.{nn-is, pos-le, le-pos, <-to-≤, ≤-to-<, *-pos, sq, _⊞_}
 use Rattle.geometry.specs.declared.Point.{Point}
 use Rattle.geometry.specs.declared.Disk.{Disk}
 use Rattle.geometry.specs.Plane.{distance}
@@ -156,3 +156,6 @@ distance-divided E X Y S K g e x y s px py hx hy he hs = linear (E ∷ X ∷ Y �
 
 pub written-value : {F : Lifted} {d : Disk} (w : Written F d) (p : Point) → F .e *ℤ value F p ≡ (pos (w .g) *ℤ pos (w .g)) *ℤ (distance d p -ℤ pos (d .s))
 written-value {F} {d} w p = distance-divided (F .e) (F .cx) (F .cy) (squaredRadius F) (F .k) (pos (w .g)) (pos (d .e)) (d .x) (d .y) (pos (d .s)) (p .x) (p .y) (w .x-is) (w .y-is) (w .e-is) (w .s-is)
+
+pub square-factor : {F : Lifted} {d : Disk} (w : Written F d) → pos 0 <ℤ (pos (w .g) *ℤ pos (w .g))
+square-factor w = *-pos (≤-to-< (pos-le (w .g-some))) (≤-to-< (pos-le (w .g-some)))
