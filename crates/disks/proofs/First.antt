@@ -2,7 +2,9 @@
 --
 --   own-supports, supports-own : the test of specs/ decides whether a set's own smallest disk is that of P
 --   Passes t cs S              == S is the first of cs that passes t
+--   candidates Q               == the sets of one, then two, then three points of Q, each in lexical order
 --   Candidate Q S              == S is one to three points of Q, rising
+--   candidate, a-candidate     : the candidates of a rising list are these sets; candidates-earlier: each comes before all later ones
 --   earlier-asym               : no two sets come before one another
 --   first-support              : IsFirstSupport P (firstSupport P), for every P of at least one point
 --   first-support-same         : lists with the same points have the same first support set
@@ -126,7 +128,7 @@ first-passes t (S ∷ cs) l R i h = go (λ j. first-passes t cs (l .1) R j h) (t
 
 -- ---- the candidates
 
-abbrev candidates : List Point → List (List Point)
+abbrev pub candidates : List Point → List (List Point)
 candidates Q = choose 1 Q ++ (choose 2 Q ++ choose 3 Q)
 
 lexical-earlier : (k : ℕ) (cs : List (List Point)) → ((S : List Point) → Among S cs → length S ≡ k) → Later Lexical cs → Later Earlier cs
@@ -145,7 +147,7 @@ pub record Candidate (Q S : List Point) : Type 0 where
 chosen : (k : ℕ) (Q S : List Point) → Rising Q → 1 ≤ k → k ≤ 3 → Among S (choose k Q) → Candidate Q S
 chosen k Q S r h l i = let e : length S ≡ k = choose-length k Q S i in record { rises = choose-rises k Q r S i; members = choose-in k Q S i; some = omega arith; most = omega arith }
 
-candidate : (Q S : List Point) → Rising Q → Among S (candidates Q) → Candidate Q S
+pub candidate : (Q S : List Point) → Rising Q → Among S (candidates Q) → Candidate Q S
 candidate Q S r i = go (List·Memᴰ·append-cases (choose 1 Q) i)
   where
     end : Among S (choose 2 Q) ⊎ Among S (choose 3 Q) → Candidate Q S
@@ -156,7 +158,7 @@ candidate Q S r i = go (List·Memᴰ·append-cases (choose 1 Q) i)
     go (inl j) = chosen 1 Q S r (omega arith) (omega arith) j
     go (inr j) = end (List·Memᴰ·append-cases (choose 2 Q) j)
 
-a-candidate : (Q S : List Point) → Rising Q → Candidate Q S → Among S (candidates Q)
+pub a-candidate : (Q S : List Point) → Rising Q → Candidate Q S → Among S (candidates Q)
 a-candidate Q [] r c = absurd (no-points (c .some))
 a-candidate Q (a ∷ []) r c = Memᴰ·append-left (choose 2 Q ++ choose 3 Q) (choose-all Q r (a ∷ []) (c .rises) (c .members))
 a-candidate Q (a ∷ b ∷ []) r c = Memᴰ·append-right (choose 1 Q) (Memᴰ·append-left (choose 3 Q) (choose-all Q r (a ∷ b ∷ []) (c .rises) (c .members)))
@@ -166,7 +168,7 @@ a-candidate Q (a ∷ b ∷ d ∷ e ∷ S) r c = absurd (no (length S) (c .most))
     no : (n : ℕ) → suc (suc (suc (suc n))) ≤ 3 → ⊥
     no n h = omega arith
 
-candidates-earlier : (Q : List Point) → Rising Q → Later Earlier (candidates Q)
+pub candidates-earlier : (Q : List Point) → Rising Q → Later Earlier (candidates Q)
 candidates-earlier Q r = later-append Earlier (choose 1 Q) (choose 2 Q ++ choose 3 Q) (chosen-earlier 1 Q r) (later-append Earlier (choose 2 Q) (choose 3 Q) (chosen-earlier 2 Q r) (chosen-earlier 3 Q r)
     (λ S R i j. fewer (omega (arith, choose-length 2 Q S i, choose-length 3 Q R j))))
     (λ S R i j. one-first S R i (List·Memᴰ·append-cases (choose 2 Q) j))

@@ -1,3 +1,4 @@
 pub mod Numbers
 pub mod PointRows
 pub mod Placing
+pub mod SetTests
