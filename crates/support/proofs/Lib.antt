@@ -2,3 +2,4 @@ pub mod Numbers
 pub mod PointRows
 pub mod Placing
 pub mod SetTests
+pub mod Found
