@@ -1,13 +1,11 @@
 -- The search finds the first support set.
 --
---   boundary-in, in-boundary : the points of `boundaryOf d P` are those of P on d's boundary
 --   Passing Q d R            == a set of points of Q that passes its test: R, or one with fewer points
 --   found-first              : among the boundary points of P's disk, sorted, the search finds the first support set of P
 --   firstFit-support         : firstFit d (sorted (boundaryOf d P)) ≡ firstSupport P, for d the disk of P, of at least one point
 use mathlib.Core.Path.{_≡_, refl, sym, _∙_, ap, subst}
 use mathlib.Core.Logic.{_⊎_, inl, inr}
-use mathlib.Core.Bool.{Bool, true, false}
-use mathlib.Core.List.{List, [], _∷_, List·Memᴰ·head, List·Memᴰ·tail, List·Memᴰ·cases-cons, List·Memᴰ·not-nil, List·Memᴰ·eq-of-singleton}
+use mathlib.Core.List.{List, [], _∷_, List·Memᴰ·head, List·Memᴰ·tail, List·Memᴰ·not-nil, List·Memᴰ·eq-of-singleton}
 use Prim.Native.Nat.{ℕ, suc, _≤_, _<_}
 use native.Mathlib.Omega.{arith}
 use lib.Dec.{T}
@@ -38,45 +36,9 @@ use Rattle.disks.proofs.OneWriting.{smallest-same}
 use Rattle.disks.proofs.Rising.{sorted-rises, sorted-same, sorted-length}
 use Rattle.disks.proofs.Choose.{Among}
 use Rattle.disks.proofs.First.{Passes, first-passes, candidates, Candidate, candidate, a-candidate, candidates-earlier, first-support, first-unique}
-use Rattle.support.specs.Search.{onBoundaryTest, boundaryOf, fits, firstFit}
+use Rattle.support.specs.Search.{boundaryOf, fits, firstFit}
+use Rattle.support.proofs.Boundary.{boundary-in, in-boundary}
 use Rattle.support.proofs.SetTests.{on-value, value-on, one-strong, strong-one, two-strong, strong-two, three-strong, acute-three}
-
--- ---- the points on the boundary
-
-module _ (d : Disk) where
-  pub boundary-on : (q : Point) (P : List Point) → onBoundaryTest d q ≡ true → boundaryOf d (q ∷ P) ≡ q ∷ boundaryOf d P
-  unfolding boundaryOf
-  boundary-on q P e = rw e
-
-  pub boundary-off : (q : Point) (P : List Point) → onBoundaryTest d q ≡ false → boundaryOf d (q ∷ P) ≡ boundaryOf d P
-  unfolding boundaryOf
-  boundary-off q P e = rw e
-
-  pub boundary-in : (P : List Point) (x : Point) → In x (boundaryOf d P) → In x P × T (onBoundaryTest d x)
-  unfolding boundaryOf
-  boundary-in [] x i = absurd (List·Memᴰ·not-nil i)
-  boundary-in (q ∷ P) x i = go (onBoundaryTest d q) refl (λ j. boundary-in P x j)
-    where
-      later : In x P × T (onBoundaryTest d x) → In x (q ∷ P) × T (onBoundaryTest d x)
-      later h = (List·Memᴰ·tail (h .0), h .1)
-
-      here : onBoundaryTest d q ≡ true → (In x (boundaryOf d P) → In x P × T (onBoundaryTest d x)) → (x ≡ q) ⊎ In x (boundaryOf d P) → In x (q ∷ P) × T (onBoundaryTest d x)
-      here e f (inl k) = (List·Memᴰ·head k, subst T (sym (ap (onBoundaryTest d) k ∙ e)) tt)
-      here e f (inr j) = later (f j)
-
-      go : (b : Bool) → onBoundaryTest d q ≡ b → (In x (boundaryOf d P) → In x P × T (onBoundaryTest d x)) → In x (q ∷ P) × T (onBoundaryTest d x)
-      go true e f = here e f (List·Memᴰ·cases-cons (subst (In x) (boundary-on q P e) i))
-      go false e f = later (f (subst (In x) (boundary-off q P e) i))
-
-  pub in-boundary : (P : List Point) (x : Point) → In x P → T (onBoundaryTest d x) → In x (boundaryOf d P)
-  in-boundary [] x i t = absurd (List·Memᴰ·not-nil i)
-  in-boundary (q ∷ P) x i t = go (onBoundaryTest d q) refl (λ j. in-boundary P x j t) (List·Memᴰ·cases-cons i)
-    where
-      go : (b : Bool) → onBoundaryTest d q ≡ b → (In x P → In x (boundaryOf d P)) → (x ≡ q) ⊎ In x P → In x (boundaryOf d (q ∷ P))
-      go true e f (inl k) = subst (In x) (sym (boundary-on q P e)) (List·Memᴰ·head k)
-      go true e f (inr j) = subst (In x) (sym (boundary-on q P e)) (List·Memᴰ·tail (f j))
-      go false e f (inl k) = absurd (subst T (ap (onBoundaryTest d) k ∙ e) t)
-      go false e f (inr j) = subst (In x) (sym (boundary-off q P e)) (f j)
 
 -- ---- a set that passes
 

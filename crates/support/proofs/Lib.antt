@@ -1,5 +1,6 @@
 pub mod Numbers
 pub mod PointRows
 pub mod Placing
+pub mod Boundary
 pub mod SetTests
 pub mod Found

@@ -6,12 +6,11 @@
 --   offset-value    : v·e − c as `offset` gives it
 --   midway-read     : `midway` of numbers that the machine reads back; test-read: a test of order of them
 --   near            : v·e − c is at most 1000·e in size where v and c/e are in a range of 1000
---   answer-small    : the numbers of an answer are small
+--   limits-small    : numbers within the limits of an answer are small
 --   near-x, near-y  : so is the offset of a point of the em box from its centre, times e
 --   s-small         : and its s
 --   decided         : two tests that follow from one another are the same
---   eqZ-eq, eq-eqZ  : the test `eqZ` decides equality
---   eqZ-machine     : it is the test that `==` makes
+--   eqZ-machine     : `eqZ` is the test that `==` makes
 use mathlib.Core.Path.{_≡_, refl, sym, ap, ap₂, subst, _∙_}
 use mathlib.Core.Bool.{Bool, true, false, _&&_}
 use mathlib.Core.List.{[], _∷_}
@@ -26,14 +25,17 @@ use mir.Facts.{toZ-ofZ}
 use Rattle.integers.specs.Between.{between}
 use Rattle.integers.specs.Bounds as bounds
 use Rattle.integers.specs.Bounds.{Value, v-add, v-neg, v-back, v-eq, v-fits, v-abs, reads-as, at-most, within-range, and-left, and-right}
-use Rattle.integers.specs.Order.{_≼_, ≤-refl, ≤-antisym, pos-le, nn-nat, nonneg, le, nn, _⊞_, _⊠_}
+use Rattle.integers.specs.Laws.{zero-*}
+use Rattle.integers.specs.Order.{_≼_, ≤-of-eq, ≤-trans, pos-le, nn-nat, nonneg, le, nn, _⊞_, _⊠_}
 use Rattle.integers.specs.Ring.{poly}
 use Rattle.geometry.specs.declared.Point.{Point}
 use Rattle.geometry.specs.declared.Disk.{Disk}
 use Rattle.geometry.specs.Plane.{inEmBox}
 use Rattle.geometry.proofs.Coordinates.{widened}
+use Rattle.disks.specs.Limits.{Limits}
 use Rattle.disks.specs.Support.{eqZ}
-use Rattle.support.specs.Search.{midway, Small, Answer}
+use Rattle.disks.proofs.Rising.{eqZ-eq, eq-eqZ}
+use Rattle.support.specs.Search.{midway, Small}
 
 abbrev pub wide-value : (z : ℤ) {r : ℤ} → SFits w16 z → r ≡ toZ w16 (ofZ w16 z) → Value (toZ w64 (ofZ w64 r))
 wide-value z f e = record { val = z; bound = 2 ^ 15; ok = true; is = λ t. widened z f e; below = λ t. natAbs-le z (f .sfits) }
@@ -74,14 +76,14 @@ centre-small lo hi e c c-low c-high e-low e-high h k = within-range {B = 2000000
     (nonneg (lo ∷ hi ∷ e ∷ c ∷ []) (le c-low ⊞ le h ⊠ e-low ⊞ nn 1000 ⊠ le e-high) (search poly depth 30) tt)
     (nonneg (lo ∷ hi ∷ e ∷ c ∷ []) (le c-high ⊞ le k ⊠ e-low ⊞ nn 1000 ⊠ le e-high) (search poly depth 30) tt) .within
 
-module _ (d : Disk) (a : Answer d) where
+module _ (d : Disk) (a : Limits d) where
   e-high : pos (d .e) ≼ pos 2000000
   e-high = pos-le (a .e-most)
 
-  pub answer-small : Small d
-  answer-small = record {
+  pub limits-small : Small d
+  limits-small = record {
     e-most = a .e-most;
-    x-most = centre-small (pos 0) (pos 1000) (pos (d .e)) (d .x) (a .x-low) (a .x-high) (nn-nat (d .e)) e-high (record { le = tt }) (record { le = tt });
+    x-most = centre-small (pos 0) (pos 1000) (pos (d .e)) (d .x) (≤-trans (≤-of-eq (zero-* (pos (d .e)))) (a .x-low)) (a .x-high) (nn-nat (d .e)) e-high (record { le = tt }) (record { le = tt });
     y-most = centre-small (negsuc 249) (pos 750) (pos (d .e)) (d .y) (a .y-low) (a .y-high) (nn-nat (d .e)) e-high (record { le = tt }) (record { le = tt });
   }
 
@@ -100,7 +102,7 @@ module _ (d : Disk) (a : Answer d) where
     pub near-x : natAbs (p .x *ℤ pos (d .e) -ℤ d .x) ≤ 2000000000
     near-x = near (pos 0) (p .x) (pos (d .e)) (d .x)
         (record { le = and-left (leZ (pos 0) (p .x)) (leZ (p .x) (pos 1000)) in-x }) (record { le = and-right (leZ (pos 0) (p .x)) (leZ (p .x) (pos 1000)) in-x })
-        (a .x-low) (a .x-high) (nn-nat (d .e)) e-high
+        (≤-trans (≤-of-eq (zero-* (pos (d .e)))) (a .x-low)) (a .x-high) (nn-nat (d .e)) e-high
 
     pub near-y : natAbs (p .y *ℤ pos (d .e) -ℤ d .y) ≤ 2000000000
     near-y = near (negsuc 249) (p .y) (pos (d .e)) (d .y)
@@ -114,16 +116,6 @@ decided true true f g = refl
 decided true false f g = absurd (f tt)
 decided false true f g = absurd (g tt)
 decided false false f g = refl
-
-pub both : (a b : Bool) → T a → T b → T (a && b)
-both true b s t = t
-both false b s t = s
-
-pub eqZ-eq : (a b : ℤ) → T (eqZ a b) → a ≡ b
-eqZ-eq a b t = ≤-antisym (record { le = and-left (leZ a b) (leZ b a) t }) (record { le = and-right (leZ a b) (leZ b a) t })
-
-pub eq-eqZ : (a b : ℤ) → a ≡ b → T (eqZ a b)
-eq-eqZ a b e = subst (λ (z : ℤ). T (eqZ a z)) e (both (leZ a a) (leZ a a) (≤-refl a .le) (≤-refl a .le))
 
 pub eqZ-machine : (a b : ℤ) → bounds.eqZ a b ≡ eqZ a b
 eqZ-machine a b = decided (bounds.eqZ a b) (eqZ a b) (λ t. eq-eqZ a b (bounds.eqZ→eq a b t)) (λ t. bounds.eq→eqZ a b (eqZ-eq a b t))

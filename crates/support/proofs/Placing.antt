@@ -13,6 +13,7 @@ use native.Mathlib.Omega.{arith}
 use lib.ListN.{length, take, drop, length-append, length-take, length-drop}
 use Rattle.geometry.specs.declared.Point.{Point}
 use Rattle.disks.specs.Support.{before, insert}
+use Rattle.disks.proofs.Rising.{insert-ahead, insert-behind, insert-level}
 use Rattle.support.specs.declared.Place.the-variants.{At, There}
 use Rattle.support.specs.Place.{placeOf, insertedAt}
 
@@ -28,18 +29,6 @@ module _ (p q : Point) (Q : List Point) where
   pub place-later : (k : ℕ) → before p q ≡ false → before q p ≡ true → placeOf p (q ∷ Q) k ≡ placeOf p Q (k + 1)
   unfolding placeOf
   place-later k e f = rw (e, f)
-
-  insert-here : before p q ≡ true → insert p (q ∷ Q) ≡ p ∷ q ∷ Q
-  unfolding insert
-  insert-here e = rw e
-
-  insert-there : before p q ≡ false → before q p ≡ false → insert p (q ∷ Q) ≡ q ∷ Q
-  unfolding insert
-  insert-there e f = rw (e, f)
-
-  insert-later : before p q ≡ false → before q p ≡ true → insert p (q ∷ Q) ≡ q ∷ insert p Q
-  unfolding insert
-  insert-later e f = rw (e, f)
 
 pub place-end : (p : Point) (k : ℕ) → placeOf p [] k ≡ At k
 unfolding placeOf
@@ -63,7 +52,7 @@ placed p (q ∷ Q) j k e = go (before p q) (before q p) refl refl (placed p Q (j
         let here : placeOf p (q ∷ Q) j ≡ At j = place-here p q Q j f in
         let same : j ≡ k = cc in
         let none : k - j ≡ 0 = omega arith in
-        record { low = omega arith; fit = omega arith; is = insert-here p q Q f ∙ rw none }
+        record { low = omega arith; fit = omega arith; is = insert-ahead p q Q f ∙ rw none }
     go false false f g later =
         let here : placeOf p (q ∷ Q) j ≡ There = place-there p q Q j f g in
         let z : _≡_ {A = ℕ} 0 1 = cc in
@@ -72,7 +61,7 @@ placed p (q ∷ Q) j k e = go (before p q) (before q p) refl refl (placed p Q (j
         let here : placeOf p (q ∷ Q) j ≡ placeOf p Q (j + 1) = place-later p q Q j f g in
         let l : Placed p Q (j + 1) k = later (cc) in
         let next : k - j ≡ suc (k - (j + 1)) = omega (arith, l .low) in
-        record { low = omega (arith, l .low); fit = omega (arith, l .low, l .fit); is = insert-later p q Q f g ∙ rw next (ap {B = List Point} (λ r. q ∷ r) (l .is)) }
+        record { low = omega (arith, l .low); fit = omega (arith, l .low, l .fit); is = insert-behind p q Q f g ∙ rw next (ap {B = List Point} (λ r. q ∷ r) (l .is)) }
 
 pub there : (p : Point) (Q : List Point) (j : ℕ) → placeOf p Q j ≡ There → insert p Q ≡ Q
 unfolding placeOf insert
@@ -84,10 +73,10 @@ there p (q ∷ Q) j e = go (before p q) (before q p) refl refl (there p Q (j + 1
         let here : placeOf p (q ∷ Q) j ≡ At j = place-here p q Q j f in
         let z : _≡_ {A = ℕ} 0 1 = cc in
         absurd (omega arith)
-    go false false f g later = insert-there p q Q f g
+    go false false f g later = insert-level p q Q f g
     go false true f g later =
         let here : placeOf p (q ∷ Q) j ≡ placeOf p Q (j + 1) = place-later p q Q j f g in
-        insert-later p q Q f g ∙ ap {B = List Point} (λ r. q ∷ r) (later (cc))
+        insert-behind p q Q f g ∙ ap {B = List Point} (λ r. q ∷ r) (later (cc))
 
 -- in a list whose first point has the number 0
 module _ (p : Point) (Q : List Point) (k : ℕ) (l : Placed p Q 0 k) where

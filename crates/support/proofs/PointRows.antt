@@ -2,6 +2,8 @@
 --
 --   drop-points           : the points from point i on are those of the numbers from number 2i on
 --   points-from           : they are point i and the points behind it
+--   points-none           : there are none from half the length on; points-length: the points are at most half as many
+--   pointAt-in            : point i is one of the points
 --   firstPoints-from, firstPoints-end : so of the first n points, up to the last
 --   firstPoints-take      : the first k of the first n points
 --   drop-next             : lists with the same numbers from 2i on have the same from 2(i + 1) on
@@ -9,13 +11,13 @@
 --   firstPoints-put       : with p written as point i, the first i + 1 points are the first i and p
 --   drop-put, length-put  : what is behind, and the length, stay
 use mathlib.Core.Path.{_≡_, refl, sym, ap, _∙_}
-use mathlib.Core.List.{List, [], _∷_, _++_}
+use mathlib.Core.List.{List, [], _∷_, _++_, List·Memᴰ, List·Memᴰ·head, List·Memᴰ·tail, List·Memᴰ·not-nil}
 use Prim.Native.Nat.{ℕ, zero, suc, _+_, _*_, _≤_, _<_}
 use native.Mathlib.Nat.{add-zero}
 use native.Mathlib.Numerals.{add-one, add-two}
 use native.Mathlib.Omega.{arith}
 use lib.IntN.{ℤ, pos}
-use lib.ListN.{length, getD, set, take, drop, length-set, length-take, drop-of-length-le}
+use lib.ListN.{length, getD, set, take, drop, length-set, length-take, length-drop, drop-of-length-le}
 use lib.Seq.{drop-cons, drop-drop, getD-take, getD-drop, take-set-le, drop-set-lt, getD-set-same, getD-set-other}
 use Rattle.geometry.specs.declared.Point.{Point}
 use Rattle.geometry.specs.Points.{points, pointAt, firstPoints}
@@ -42,6 +44,30 @@ unfolding points
 points-from i l h =
     let next : 2 * (i + 1) ≡ 2 * i + 2 = omega arith in
     drop-points i l ∙ ap points (two-from l (2 * i) h) ∙ ap {B = List Point} (λ Q. pointAt l i ∷ Q) (sym (drop-points (i + 1) l ∙ ap (λ (k : ℕ). points (drop k l)) next))
+
+-- there are half as many points as numbers
+pub points-none : (i : ℕ) (l : List ℤ) → length l < 2 * i + 2 → drop i (points l) ≡ []
+unfolding points
+points-none i l h = drop-points i l ∙ short (drop (2 * i) l) (simp length-drop (omega arith))
+  where
+    short : (m : List ℤ) → length m < 2 → points m ≡ []
+    short [] h = refl
+    short (x ∷ []) h = refl
+    short (x ∷ y ∷ m) h = absurd (omega arith)
+
+pub points-length : (l : List ℤ) → 2 * length (points l) ≤ length l
+unfolding points
+points-length [] = omega arith
+points-length (x ∷ []) = omega arith
+points-length (x ∷ y ∷ l) = omega (arith, points-length l)
+
+in-drop : (i : ℕ) (P : List Point) {x : Point} → List·Memᴰ x (drop i P) → List·Memᴰ x P
+in-drop zero P m = m
+in-drop (suc i) [] m = absurd (List·Memᴰ·not-nil m)
+in-drop (suc i) (p ∷ P) m = List·Memᴰ·tail (in-drop i P m)
+
+pub pointAt-in : (i : ℕ) (l : List ℤ) → 2 * i + 2 ≤ length l → List·Memᴰ (pointAt l i) (points l)
+pointAt-in i l h = in-drop i (points l) (rw (points-from i l h) (List·Memᴰ·head refl))
 
 module _ (n i : ℕ) (l : List ℤ) (fits : 2 * n ≤ length l) where
   pub firstPoints-from : i < n → drop i (firstPoints n l) ≡ pointAt l i ∷ drop (i + 1) (firstPoints n l)

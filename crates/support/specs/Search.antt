@@ -8,17 +8,17 @@
 --                          three angles are acute
 --   firstFit d Q        == of the sets of one, then two, then three points of Q, each in Q's order, the first that passes the test
 --   Small d             == the numbers of d are small enough for the tests of sets
---   Answer d            == the limits of 01 on an answer's four numbers
---   Collected l d, Asked l d == what the collection of the points, and the whole search, ask of the list and the disk
+--   AllInEmBox l        == the points of the list l are in the em box
+--   Asked l d           == what the search asks: l is a list of at least one point and at most 4,096, all in the em box, and d is its
+--                          smallest disk
 use mathlib.Core.Path.{_≡_}
 use mathlib.Core.Bool.{Bool, true, false, _&&_}
 use mathlib.Core.List.{List, [], _∷_, _++_}
-use Prim.Native.Nat.{ℕ, _*_, _%_, _≤_}
+use Prim.Native.Nat.{ℕ, _≤_}
 use lib.Dec.{T, eqb}
-use lib.IntN.{ℤ, pos, negsuc, natAbs, _+ℤ_, _-ℤ_, _*ℤ_}
+use lib.IntN.{ℤ, pos, natAbs, _+ℤ_, _-ℤ_, _*ℤ_}
 use lib.ListN.{length}
 use lib.Signed.{ltZ}
-use Rattle.integers.specs.Order.{_≼_}
 use Rattle.geometry.specs.declared.Point.{Point}
 use Rattle.geometry.specs.declared.Disk.{Disk}
 use Rattle.geometry.specs.Plane.{distance, inEmBox}
@@ -68,25 +68,11 @@ pub record Small (d : Disk) : Type 0 where
   pub x-most : natAbs (d .x) ≤ 2000000000
   pub y-most : natAbs (d .y) ≤ 2000000000
 
-pub record Answer (d : Disk) : Type 0 where
-  pub e-most : d .e ≤ 2000000
-  pub s-most : d .s ≤ 500000 * (d .e * d .e)
-  pub x-low : pos 0 *ℤ pos (d .e) ≼ d .x
-  pub x-high : d .x ≼ pos 1000 *ℤ pos (d .e)
-  pub y-low : negsuc 249 *ℤ pos (d .e) ≼ d .y
-  pub y-high : d .y ≼ pos 750 *ℤ pos (d .e)
+abbrev pub AllInEmBox : List ℤ → Type 0
+AllInEmBox l = (p : Point) → In p (points l) → T (inEmBox p)
 
--- a list of numbers whose points are in the em box, and an answer's disk
-pub record Collected (l : List ℤ) (d : Disk) : Type 0 where
-  pub even : length l % 2 ≡ 0
-  pub boxed : (p : Point) → In p (points l) → T (inEmBox p)
-  pub answer : Answer d
-
--- a list that 01 accepts, and its smallest disk
 pub record Asked (l : List ℤ) (d : Disk) : Type 0 where
-  pub even : length l % 2 ≡ 0
   pub some : 2 ≤ length l
   pub most : length l ≤ 8192
-  pub boxed : (p : Point) → In p (points l) → T (inEmBox p)
+  pub boxed : AllInEmBox l
   pub smallest : d ≡ diskOf (points l)
-  pub answer : Answer d

@@ -9,8 +9,9 @@ ghost use lib.IntN.{pos, natAbs, _-ℤ_, _*ℤ_};
 ghost use lib.ListN.{length};
 ghost use Rattle.geometry.specs.Plane.{inEmBox, members};
 ghost use Rattle.geometry.specs.Points.{points, firstPoints};
+ghost use Rattle.disks.specs.Limits.{Limits};
 ghost use Rattle.disks.specs.Support.{before, insert, sorted, firstSupport};
-ghost use Rattle.support.specs.Search.{onBoundaryTest, boundaryOf, midway, opposite, acuteAt, acute, firstFit, Small, Answer, Collected, Asked};
+ghost use Rattle.support.specs.Search.{onBoundaryTest, boundaryOf, midway, opposite, acuteAt, acute, firstFit, Small, AllInEmBox, Asked};
 ghost use Rattle.support.specs.Place.{placeOf, putAt, insertedAt};
 
 // Where a point goes in a rising list: at a place, or nowhere since it is there.
@@ -29,7 +30,7 @@ fn offset(v: i16, e: u64, c: i64) -> i64
 
 // Whether p is on the disk's boundary.
 fn on_boundary(disk: Disk, p: Point) -> bool
-    requires { ⌜ Answer disk × T (inEmBox p) ⌝ }
+    requires { ⌜ Limits disk × T (inEmBox p) ⌝ }
     ensures { λ r. ⌜ r ≡ onBoundaryTest disk p ⌝ }
 {
     let a = offset(p.x, disk.e, disk.x);
@@ -152,7 +153,7 @@ fn insert_point(list: &mut [i16], n: usize, p: Point) -> usize
 
 // Writes the points of the list on the disk's boundary to `out`, rising and each once, and returns how many there are.
 fn collect(list: &[i16], disk: Disk, out: &mut [i16]) -> usize
-    requires { ⌜ Collected (now list) disk × (length (now list) ≤ length (now out)) ⌝ }
+    requires { ⌜ Limits disk × AllInEmBox (now list) × (length (now list) ≤ length (now out)) ⌝ }
     ensures size { λ r. ⌜ r ≡ length (sorted (boundaryOf disk (points (now (list .entry))))) ⌝ }
     ensures left { λ r. ⌜ firstPoints r (now (out .exit)) ≡ sorted (boundaryOf disk (points (now (list .entry)))) ⌝ }
 {
