@@ -15,7 +15,7 @@ use lib.ListN.{length}
 use Rattle.geometry.specs.declared.Point.{Point}
 use Rattle.geometry.specs.declared.Disk.{Disk}
 use Rattle.disks.specs.Smallest.{In, Smallest}
-use Rattle.disks.specs.Support.{before}
+use Rattle.geometry.specs.Order.{before}
 
 abbrev pub Rising : List Point → Type 0
 Rising [] = Unit {0}

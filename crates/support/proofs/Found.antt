@@ -2,7 +2,8 @@
 --
 --   Passing Q d R            == a set of points of Q that passes its test: R, or one with fewer points
 --   found-first              : among the boundary points of P's disk, sorted, the search finds the first support set of P
---   firstFit-support         : firstFit d (sorted (boundaryOf d P)) ≡ firstSupport P, for d the disk of P, of at least one point
+--   search-finds             : firstFit d (sorted (boundaryOf d P)) ≡ firstSupport P, for d the disk of P, of at least one point
+--   search-some, within-limits : it finds some set; and d keeps the limits of 01 where P is in the em box
 use mathlib.Core.Path.{_≡_, refl, sym, _∙_, ap, subst}
 use mathlib.Core.Logic.{_⊎_, inl, inr}
 use mathlib.Core.List.{List, [], _∷_, List·Memᴰ·head, List·Memᴰ·tail, List·Memᴰ·not-nil, List·Memᴰ·eq-of-singleton}
@@ -17,6 +18,8 @@ use Rattle.integers.specs.Order.{≡-cancel}
 use Rattle.geometry.specs.declared.Point.{Point}
 use Rattle.geometry.specs.declared.Disk.{Disk}
 use Rattle.disks.specs.Smallest.{In, Smallest}
+use Rattle.geometry.specs.Plane.{inEmBox}
+use Rattle.disks.specs.Limits.{Limits}
 use Rattle.disks.specs.Procedure.{diskOf}
 use Rattle.disks.specs.Support.{sorted, firstOf, firstSupport}
 use Rattle.disks.specs.FirstSupport.{Rising, IsSupport, IsFirstSupport, Earlier, fewer, lexical}
@@ -34,6 +37,7 @@ use Rattle.disks.proofs.Acute.{pair-own, kind, Kind, side-bc, side-ac, side-ab,
 use Rattle.disks.proofs.Support.{SupportSet, Supported, one, two, three, support}
 use Rattle.disks.proofs.OneWriting.{smallest-same}
 use Rattle.disks.proofs.Rising.{sorted-rises, sorted-same, sorted-length}
+use Rattle.disks.proofs.Answer.{limits}
 use Rattle.disks.proofs.Choose.{Among}
 use Rattle.disks.proofs.First.{Passes, first-passes, candidates, Candidate, candidate, a-candidate, candidates-earlier, first-support, first-unique}
 use Rattle.support.specs.Search.{boundaryOf, fits, firstFit}
@@ -54,6 +58,9 @@ on-by e f v u q hf h = ≡-cancel (positive-not-zero hf) (linear (e ∷ f ∷ v 
 
 on-multiple : {F G : Lifted} (a : Point) → pos 0 <ℤ G .e → Multiple F G → value G a ≡ pos 0 → value F a ≡ pos 0
 on-multiple {F} {G} a hg u h = on-by (F .e) (G .e) (value F a) (value G a) (multiple-value u a) hg h
+
+no-points : 1 ≤ 0 → ⊥
+no-points h = omega arith
 
 in-front : {a b x : Point} → In x (a ∷ []) → In x (a ∷ b ∷ [])
 in-front {a} {b} {x} i = List·Memᴰ·head (List·Memᴰ·eq-of-singleton i)
@@ -144,10 +151,7 @@ module _ (p : Point) (P : List Point) where
       On x = value F x ≡ pos 0
 
   passing : (R : List Point) → Rising R → ((x : Point) → In x R → In x L) → 1 ≤ length R → length R ≤ 3 → StronglyMinimal R [] F → Passing Q d R
-  passing [] r f h k m = absurd (no h)
-    where
-      no : 1 ≤ 0 → ⊥
-      no h = omega arith
+  passing [] r f h k m = absurd (no-points h)
   passing (a ∷ []) r f h k m = one-passes a r f m
   passing (a ∷ b ∷ []) r f h k m = two-passes a b r f m
   passing (a ∷ b ∷ c ∷ []) r f h k m = three-passes a b c r f (kind a b c m)
@@ -208,19 +212,40 @@ module _ (p : Point) (P : List Point) where
       whole = strong-smallest (mtf-strong p P) w
 
       strong : (R : List Point) → 1 ≤ length R → Smallest R d → StronglyMinimal R [] F
-      strong [] h m = absurd (no h)
-        where
-          no : 1 ≤ 0 → ⊥
-          no h = omega arith
+      strong [] h m = absurd (no-points h)
       strong (q ∷ R) h m = smallest-strong F proper w m
 
       own : (R : List Point) → IsSupport L R → StronglyMinimal R [] F
       own R s = strong R (s .some) (subst (Smallest R) (smallest-same (same-refl L) (same-refl []) (s .whole) whole) (s .own))
 
-  pub firstFit-support : firstFit d Q ≡ firstSupport L
+  firstFit-support : firstFit d Q ≡ firstSupport L
   unfolding firstFit
   firstFit-support = first-unique (same-refl L) found-first (first-support p P)
 
-  pub firstFit-some : 1 ≤ length (firstFit d Q)
+  firstFit-some : 1 ≤ length (firstFit d Q)
   unfolding firstFit
   firstFit-some = found-first .supports .some
+
+-- ---- for any list of at least one point, and a disk that is its own
+
+module _ (P : List Point) (some : 1 ≤ length P) (d : Disk) (is : d ≡ diskOf P) where
+  pub search-finds : firstFit d (sorted (boundaryOf d P)) ≡ firstSupport P
+  search-finds = subst (λ (c : Disk). firstFit c (sorted (boundaryOf c P)) ≡ firstSupport P) (sym is) (of P some)
+    where
+      of : (P : List Point) → 1 ≤ length P → firstFit (diskOf P) (sorted (boundaryOf (diskOf P) P)) ≡ firstSupport P
+      of [] h = absurd (no-points h)
+      of (p ∷ P) h = firstFit-support p P
+
+  pub search-some : 1 ≤ length (firstFit d (sorted (boundaryOf d P)))
+  search-some = subst (λ (c : Disk). 1 ≤ length (firstFit c (sorted (boundaryOf c P)))) (sym is) (of P some)
+    where
+      of : (P : List Point) → 1 ≤ length P → 1 ≤ length (firstFit (diskOf P) (sorted (boundaryOf (diskOf P) P)))
+      of [] h = absurd (no-points h)
+      of (p ∷ P) h = firstFit-some p P
+
+  pub within-limits : ((p : Point) → In p P → T (inEmBox p)) → Limits d
+  within-limits boxed = subst Limits (sym is) (of P some boxed)
+    where
+      of : (P : List Point) → 1 ≤ length P → ((p : Point) → In p P → T (inEmBox p)) → Limits (diskOf P)
+      of [] h f = absurd (no-points h)
+      of (p ∷ P) h f = limits p P f

@@ -3,6 +3,7 @@
 --   drop-points           : the points from point i on are those of the numbers from number 2i on
 --   points-from           : they are point i and the points behind it
 --   points-none           : there are none from half the length on; points-length: the points are at most half as many
+--   points-some           : a list of two numbers or more has a point
 --   pointAt-in            : point i is one of the points
 --   firstPoints-from, firstPoints-end : so of the first n points, up to the last
 --   firstPoints-take      : the first k of the first n points
@@ -60,6 +61,12 @@ unfolding points
 points-length [] = omega arith
 points-length (x ∷ []) = omega arith
 points-length (x ∷ y ∷ l) = omega (arith, points-length l)
+
+pub points-some : (l : List ℤ) → 2 ≤ length l → 1 ≤ length (points l)
+unfolding points
+points-some [] h = absurd (omega arith)
+points-some (x ∷ []) h = absurd (omega arith)
+points-some (x ∷ y ∷ l) h = omega arith
 
 in-drop : (i : ℕ) (P : List Point) {x : Point} → List·Memᴰ x (drop i P) → List·Memᴰ x P
 in-drop zero P m = m
