@@ -1,5 +1,8 @@
 -- The disk of a list of points of the em box keeps document 01's limits.
 --
+--   EmBox p    == p lies in the em box, by four inequalities
+--   in-box     : so it does where `inEmBox` says so
+--   weight     : E of the lifted disk is at most 2,000,000
 --   limits     : Limits (diskOf P), for every P of at least one point, all in the em box
 use mathlib.Core.Path.{_≡_, sym, subst}
 use mathlib.Core.List.{List, [], _∷_}
@@ -46,10 +49,10 @@ no-more n g E e hg he h = nonneg (n ∷ g ∷ E ∷ pos e ∷ []) (le h ⊞ lt h
 
 -- ---- the em box
 
-abbrev EmBox : Point → Type 0
+abbrev pub EmBox : Point → Type 0
 EmBox p = Box (pos 0) (negsuc 249) (pos 1000) p
 
-in-box : (p : Point) → T (inEmBox p) → EmBox p
+pub in-box : (p : Point) → T (inEmBox p) → EmBox p
 unfolding inEmBox
 in-box p t = record {
   left = record { le = and-left (leZ (pos 0) (p .x)) (leZ (p .x) (pos 1000)) x };
@@ -65,13 +68,13 @@ in-box p t = record {
     y = and-right (between (pos 0) (p .x) (pos 1000)) (between (negsuc 249) (p .y) (pos 750)) t
 
 module _ (p : Point) (P : List Point) (inside : (q : Point) → In q (p ∷ P) → T (inEmBox q)) where
-  abbrev F : Lifted
+  abbrev pub F : Lifted
   F = mtf (p ∷ P) .disk
 
   boxed : (q : Point) → In q (p ∷ P) → EmBox q
   boxed q i = in-box q (inside q i)
 
-  weight : F .e ≤ℤ pos 2000000
+  pub weight : F .e ≤ℤ pos 2000000
   weight = run-weight (pos 0) (negsuc 249) (pos 1000) thousand 3 [] (p ∷ P) (none-of EmBox) boxed .weight
     where
       thousand : pos 0 <ℤ pos 1000
