@@ -6,6 +6,7 @@
 --   search-some, within-limits : it finds some set; and d keeps the limits of 01 where P is in the em box
 use mathlib.Core.Path.{_≡_, refl, sym, _∙_, ap, subst}
 use mathlib.Core.Logic.{_⊎_, inl, inr}
+use mathlib.Core.Bool.{true}
 use mathlib.Core.List.{List, [], _∷_, List·Memᴰ·head, List·Memᴰ·tail, List·Memᴰ·not-nil, List·Memᴰ·eq-of-singleton}
 use Prim.Native.Nat.{ℕ, suc, _≤_, _<_}
 use native.Mathlib.Omega.{arith}
@@ -18,10 +19,10 @@ use Rattle.integers.specs.Order.{≡-cancel}
 use Rattle.geometry.specs.declared.Point.{Point}
 use Rattle.geometry.specs.declared.Disk.{Disk}
 use Rattle.disks.specs.Smallest.{In, Smallest}
-use Rattle.geometry.specs.Plane.{inEmBox}
+use Rattle.geometry.specs.Plane.{inEmBox, allInEmBox}
 use Rattle.disks.specs.Limits.{Limits}
 use Rattle.disks.specs.Procedure.{diskOf}
-use Rattle.disks.specs.Support.{sorted, firstOf, firstSupport}
+use Rattle.disks.specs.Support.{sorted, candidates, firstOf, firstSupport}
 use Rattle.disks.specs.FirstSupport.{Rising, IsSupport, IsFirstSupport, Earlier, fewer, lexical}
 use Rattle.disks.proofs.Lifted.{Lifted, value}
 use Rattle.disks.proofs.Minimal.{none-of, also, same-refl, StronglyMinimal, strong-same}
@@ -39,8 +40,9 @@ use Rattle.disks.proofs.OneWriting.{smallest-same}
 use Rattle.disks.proofs.Rising.{sorted-rises, sorted-same, sorted-length}
 use Rattle.disks.proofs.Answer.{limits}
 use Rattle.disks.proofs.Choose.{Among}
-use Rattle.disks.proofs.First.{Passes, first-passes, candidates, Candidate, candidate, a-candidate, candidates-earlier, first-support, first-unique}
+use Rattle.disks.proofs.First.{Passes, first-passes, Candidate, candidate, a-candidate, candidates-earlier, first-support, first-unique}
 use Rattle.support.specs.Search.{boundaryOf, fits, firstFit}
+use Rattle.support.proofs.PointRows.{all-in-em-box}
 use Rattle.support.proofs.Boundary.{boundary-in, in-boundary}
 use Rattle.support.proofs.SetTests.{on-value, value-on, one-strong, strong-one, two-strong, strong-two, three-strong, acute-three}
 
@@ -243,8 +245,8 @@ module _ (P : List Point) (some : 1 ≤ length P) (d : Disk) (is : d ≡ diskOf 
       of [] h = absurd (no-points h)
       of (p ∷ P) h = firstFit-some p P
 
-  pub within-limits : ((p : Point) → In p P → T (inEmBox p)) → Limits d
-  within-limits boxed = subst Limits (sym is) (of P some boxed)
+  pub within-limits : allInEmBox P ≡ true → Limits d
+  within-limits boxed = subst Limits (sym is) (of P some (all-in-em-box P boxed))
     where
       of : (P : List Point) → 1 ≤ length P → ((p : Point) → In p P → T (inEmBox p)) → Limits (diskOf P)
       of [] h f = absurd (no-points h)

@@ -19,9 +19,9 @@ use lib.ListN.{length, drop}
 use Rattle.geometry.specs.declared.Point.{Point}
 use Rattle.geometry.specs.declared.Disk.{Disk}
 use Rattle.geometry.specs.Points.{points, firstPoints}
-use Rattle.disks.specs.Support.{fronted, choose, firstOf}
+use Rattle.disks.specs.Support.{fronted, choose, candidates, firstOf}
 use Rattle.disks.proofs.Choose.{Among, choose-length}
-use Rattle.disks.proofs.First.{candidates, first-yes, first-no}
+use Rattle.disks.proofs.First.{first-yes, first-no}
 use Rattle.support.specs.Search.{acute, fits, firstFit}
 
 fronted-append : (p : Point) (cs ds : List (List Point)) → fronted p (cs ++ ds) ≡ fronted p cs ++ fronted p ds

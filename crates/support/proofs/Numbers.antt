@@ -4,7 +4,7 @@
 --   stored-value    : a number as the machine reads it back, with a bound; stored-small: the bound is kept
 --   minus-value     : a difference of coordinates as `minus` gives it
 --   offset-value    : v·e − c as `offset` gives it
---   midway-read     : `midway` of numbers that the machine reads back; test-read: a test of order of them
+--   midway-read     : `midway` of numbers that the machine reads back
 --   near            : v·e − c is at most 1000·e in size where v and c/e are in a range of 1000
 --   limits-small    : numbers within the limits of an answer are small
 --   near-x, near-y  : so is the offset of a point of the em box from its centre, times e
@@ -18,7 +18,7 @@ use Prim.Native.Nat.{ℕ, _^_, _≤_}
 use native.Mathlib.Nat.{le-refl, le-trans, mul-le-mul}
 use lib.Dec.{T}
 use lib.IntN.{ℤ, pos, negsuc, negℤ, natAbs, _+ℤ_, _-ℤ_, _*ℤ_}
-use lib.Signed.{leZ, ltZ, natAbs-le}
+use lib.Signed.{leZ, natAbs-le}
 use mir.Syntax.{w16, w64}
 use mir.Val.{SFits, toZ, ofZ}
 use mir.Facts.{toZ-ofZ}
@@ -30,10 +30,10 @@ use Rattle.integers.specs.Order.{_≼_, ≤-of-eq, ≤-trans, pos-le, nn-nat, n
 use Rattle.integers.specs.Ring.{poly}
 use Rattle.geometry.specs.declared.Point.{Point}
 use Rattle.geometry.specs.declared.Disk.{Disk}
+use Rattle.geometry.specs.Order.{eqZ}
 use Rattle.geometry.specs.Plane.{inEmBox}
 use Rattle.geometry.proofs.Coordinates.{widened}
 use Rattle.disks.specs.Limits.{Limits}
-use Rattle.disks.specs.Support.{eqZ}
 use Rattle.disks.proofs.Rising.{eqZ-eq, eq-eqZ}
 use Rattle.support.specs.Search.{midway, Small}
 
@@ -59,9 +59,6 @@ pub midway-read :
     (a b : ℤ) (e : ℕ) (c : ℤ) → SFits w16 a → SFits w16 b → SFits w64 c
     → midway (toZ w16 (ofZ w16 a)) (toZ w16 (ofZ w16 b)) e (toZ w64 (ofZ w64 c)) ≡ midway a b e c
 midway-read a b e c f g h = ap₂ (λ (x y : ℤ). midway x y e (toZ w64 (ofZ w64 c))) (toZ-ofZ f) (toZ-ofZ g) ∙ ap (midway a b e) (toZ-ofZ h)
-
-pub test-read : (a b : ℤ) → SFits w16 a → SFits w16 b → ltZ (toZ w16 (ofZ w16 a)) (toZ w16 (ofZ w16 b)) ≡ ltZ a b
-test-read a b f g = ap₂ ltZ (toZ-ofZ f) (toZ-ofZ g)
 
 -- ---- sizes
 

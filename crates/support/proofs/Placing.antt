@@ -12,7 +12,8 @@ use Prim.Native.Nat.{ℕ, suc, _+_, _-_, _≤_}
 use native.Mathlib.Omega.{arith}
 use lib.ListN.{length, take, drop, length-append, length-take, length-drop}
 use Rattle.geometry.specs.declared.Point.{Point}
-use Rattle.disks.specs.Support.{before, insert}
+use Rattle.geometry.specs.Order.{before}
+use Rattle.disks.specs.Support.{insert}
 use Rattle.disks.proofs.Rising.{insert-ahead, insert-behind, insert-level}
 use Rattle.support.specs.declared.Place.the-variants.{At, There}
 use Rattle.support.specs.Place.{placeOf, insertedAt}

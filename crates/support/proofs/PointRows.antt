@@ -5,22 +5,28 @@
 --   points-none           : there are none from half the length on; points-length: the points are at most half as many
 --   points-some           : a list of two numbers or more has a point
 --   pointAt-in            : point i is one of the points
+--   all-in-em-box         : each point of a list in the em box is
 --   firstPoints-from, firstPoints-end : so of the first n points, up to the last
 --   firstPoints-take      : the first k of the first n points
 --   drop-next             : lists with the same numbers from 2i on have the same from 2(i + 1) on
 --   pointAt-drop          : lists with the same numbers from 2i on have the same point i
 --   firstPoints-put       : with p written as point i, the first i + 1 points are the first i and p
 --   drop-put, length-put  : what is behind, and the length, stay
-use mathlib.Core.Path.{_≡_, refl, sym, ap, _∙_}
-use mathlib.Core.List.{List, [], _∷_, _++_, List·Memᴰ, List·Memᴰ·head, List·Memᴰ·tail, List·Memᴰ·not-nil}
+use mathlib.Core.Path.{_≡_, refl, sym, ap, subst, _∙_}
+use mathlib.Core.Logic.{_⊎_, inl, inr}
+use mathlib.Core.Bool.{true}
+use mathlib.Core.List.{List, [], _∷_, _++_, List·Memᴰ, List·Memᴰ·head, List·Memᴰ·tail, List·Memᴰ·cases-cons, List·Memᴰ·not-nil}
 use Prim.Native.Nat.{ℕ, zero, suc, _+_, _*_, _≤_, _<_}
 use native.Mathlib.Nat.{add-zero}
 use native.Mathlib.Numerals.{add-one, add-two}
 use native.Mathlib.Omega.{arith}
+use lib.Dec.{T}
 use lib.IntN.{ℤ, pos}
 use lib.ListN.{length, getD, set, take, drop, length-set, length-take, length-drop, drop-of-length-le}
 use lib.Seq.{drop-cons, drop-drop, getD-take, getD-drop, take-set-le, drop-set-lt, getD-set-same, getD-set-other}
+use Rattle.integers.specs.Between.{first, rest}
 use Rattle.geometry.specs.declared.Point.{Point}
+use Rattle.geometry.specs.Plane.{inEmBox, allInEmBox}
 use Rattle.geometry.specs.Points.{points, pointAt, firstPoints}
 use Rattle.geometry.proofs.PointLists.{firstPoints-next, length-firstPoints}
 use Rattle.support.specs.Place.{putAt}
@@ -75,6 +81,15 @@ in-drop (suc i) (p ∷ P) m = List·Memᴰ·tail (in-drop i P m)
 
 pub pointAt-in : (i : ℕ) (l : List ℤ) → 2 * i + 2 ≤ length l → List·Memᴰ (pointAt l i) (points l)
 pointAt-in i l h = in-drop i (points l) (rw (points-from i l h) (List·Memᴰ·head refl))
+
+pub all-in-em-box : (P : List Point) → allInEmBox P ≡ true → (p : Point) → List·Memᴰ p P → T (inEmBox p)
+unfolding allInEmBox
+all-in-em-box [] e p m = absurd (List·Memᴰ·not-nil m)
+all-in-em-box (q ∷ P) e p m = go (λ k. all-in-em-box P (rest (inEmBox q) (allInEmBox P) e) p k) (List·Memᴰ·cases-cons m)
+  where
+    go : (List·Memᴰ p P → T (inEmBox p)) → (p ≡ q) ⊎ List·Memᴰ p P → T (inEmBox p)
+    go f (inl k) = subst T (sym (ap inEmBox k ∙ first (inEmBox q) (allInEmBox P) e)) tt
+    go f (inr k) = f k
 
 module _ (n i : ℕ) (l : List ℤ) (fits : 2 * n ≤ length l) where
   pub firstPoints-from : i < n → drop i (firstPoints n l) ≡ pointAt l i ∷ drop (i + 1) (firstPoints n l)

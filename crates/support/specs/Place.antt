@@ -9,7 +9,7 @@ use Prim.Native.Nat.{ℕ, _+_, _*_}
 use lib.IntN.{ℤ}
 use lib.ListN.{set, take, drop}
 use Rattle.geometry.specs.declared.Point.{Point}
-use Rattle.disks.specs.Support.{before}
+use Rattle.geometry.specs.Order.{before}
 use Rattle.support.specs.declared.Place.{Place}
 use Rattle.support.specs.declared.Place.the-variants.{At, There}
 

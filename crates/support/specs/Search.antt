@@ -8,24 +8,23 @@
 --                          three angles are acute
 --   firstFit d Q        == of the sets of one, then two, then three points of Q, each in Q's order, the first that passes the test
 --   Small d             == the numbers of d are small enough for the tests of sets
---   AllInEmBox l        == the points of the list l are in the em box
 --   Asked l d           == what the search asks: l is a list of at least one point and at most 4,096, all in the em box, and d is its
 --                          smallest disk
 use mathlib.Core.Path.{_≡_}
 use mathlib.Core.Bool.{Bool, true, false, _&&_}
-use mathlib.Core.List.{List, [], _∷_, _++_}
+use mathlib.Core.List.{List, [], _∷_}
 use Prim.Native.Nat.{ℕ, _≤_}
-use lib.Dec.{T, eqb}
+use lib.Dec.{eqb}
 use lib.IntN.{ℤ, pos, natAbs, _+ℤ_, _-ℤ_, _*ℤ_}
 use lib.ListN.{length}
 use lib.Signed.{ltZ}
 use Rattle.geometry.specs.declared.Point.{Point}
 use Rattle.geometry.specs.declared.Disk.{Disk}
-use Rattle.geometry.specs.Plane.{distance, inEmBox}
+use Rattle.geometry.specs.Plane.{distance, allInEmBox}
+use Rattle.geometry.specs.Order.{eqZ}
 use Rattle.geometry.specs.Points.{points}
-use Rattle.disks.specs.Smallest.{In}
 use Rattle.disks.specs.Procedure.{diskOf}
-use Rattle.disks.specs.Support.{eqZ, choose, firstOf}
+use Rattle.disks.specs.Support.{candidates, firstOf}
 
 unfoldable pub onBoundaryTest : Disk → Point → Bool
 onBoundaryTest d p = eqZ (distance d p) (pos (d .s))
@@ -61,18 +60,15 @@ fits d (p ∷ q ∷ r ∷ []) = acute p q r
 fits d (p ∷ q ∷ r ∷ t ∷ T) = false
 
 unfoldable pub firstFit : Disk → List Point → List Point
-firstFit d Q = firstOf (fits d) (choose 1 Q ++ (choose 2 Q ++ choose 3 Q))
+firstFit d Q = firstOf (fits d) (candidates Q)
 
 pub record Small (d : Disk) : Type 0 where
   pub e-most : d .e ≤ 2000000
   pub x-most : natAbs (d .x) ≤ 2000000000
   pub y-most : natAbs (d .y) ≤ 2000000000
 
-abbrev pub AllInEmBox : List ℤ → Type 0
-AllInEmBox l = (p : Point) → In p (points l) → T (inEmBox p)
-
 pub record Asked (l : List ℤ) (d : Disk) : Type 0 where
   pub some : 2 ≤ length l
   pub most : length l ≤ 8192
-  pub boxed : AllInEmBox l
+  pub boxed : allInEmBox (points l) ≡ true
   pub smallest : d ≡ diskOf (points l)

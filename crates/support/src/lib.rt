@@ -2,16 +2,17 @@
 use geometry::Disk;
 use geometry::Point;
 use geometry::SupportSet;
+ghost use mathlib.Core.Bool.{true};
 ghost use mathlib.Core.Path.{_≡_};
 ghost use Prim.Native.Nat.{_+_, _*_, _≤_};
 ghost use lib.Dec.{T};
 ghost use lib.IntN.{pos, natAbs, _-ℤ_, _*ℤ_};
 ghost use lib.ListN.{length};
-ghost use Rattle.geometry.specs.Plane.{inEmBox, members};
+ghost use Rattle.geometry.specs.Plane.{inEmBox, allInEmBox, members};
 ghost use Rattle.geometry.specs.Points.{points, firstPoints};
 ghost use Rattle.disks.specs.Limits.{Limits};
-ghost use Rattle.disks.specs.Support.{before, insert, sorted, firstSupport};
-ghost use Rattle.support.specs.Search.{onBoundaryTest, boundaryOf, midway, opposite, acuteAt, acute, firstFit, Small, AllInEmBox, Asked};
+ghost use Rattle.disks.specs.Support.{insert, sorted, firstSupport};
+ghost use Rattle.support.specs.Search.{onBoundaryTest, boundaryOf, midway, opposite, acuteAt, acute, firstFit, Small, Asked};
 ghost use Rattle.support.specs.Place.{placeOf, putAt, insertedAt};
 
 // Where a point goes in a rising list: at a place, or nowhere since it is there.
@@ -81,19 +82,6 @@ fn is_acute(p: Point, q: Point, r: Point) -> bool
     is_acute_at(r, p, q)
 }
 
-// Whether p comes before q in rising order.
-fn is_before(p: Point, q: Point) -> bool
-    ensures { λ r. ⌜ r ≡ before p q ⌝ }
-{
-    if p.x < q.x {
-        return true;
-    }
-    if q.x < p.x {
-        return false;
-    }
-    p.y < q.y
-}
-
 // The place of p among the first n points of the list.
 fn find_place(list: &[i16], n: usize, p: Point) -> Place
     requires { ⌜ 2 * n ≤ length (now list) ⌝ }
@@ -101,10 +89,10 @@ fn find_place(list: &[i16], n: usize, p: Point) -> Place
 {
     for k in 0..n {
         let q = geometry::point_at(list, k);
-        if is_before(p, q) {
+        if geometry::is_before(p, q) {
             return Place::At(k);
         }
-        if !is_before(q, p) {
+        if !geometry::is_before(q, p) {
             return Place::There;
         }
     }
@@ -153,7 +141,7 @@ fn insert_point(list: &mut [i16], n: usize, p: Point) -> usize
 
 // Writes the points of the list on the disk's boundary to `out`, rising and each once, and returns how many there are.
 fn collect(list: &[i16], disk: Disk, out: &mut [i16]) -> usize
-    requires { ⌜ Limits disk × AllInEmBox (now list) × (length (now list) ≤ length (now out)) ⌝ }
+    requires { ⌜ Limits disk × (allInEmBox (points (now list)) ≡ true) × (length (now list) ≤ length (now out)) ⌝ }
     ensures size { λ r. ⌜ r ≡ length (sorted (boundaryOf disk (points (now (list .entry))))) ⌝ }
     ensures left { λ r. ⌜ firstPoints r (now (out .exit)) ≡ sorted (boundaryOf disk (points (now (list .entry)))) ⌝ }
 {

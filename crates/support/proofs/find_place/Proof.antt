@@ -8,7 +8,7 @@ use native.Mathlib.Omega.{arith}
 use borrow.Author.Tests.{not-true, not-false}
 use lib.ListN.{drop}
 use Rattle.geometry.specs.Points.{firstPoints}
-use Rattle.disks.specs.Support.{before}
+use Rattle.geometry.specs.Order.{before}
 use Rattle.support.specs.declared.Place.the-variants.{At}
 use Rattle.support.specs.Place.{placeOf}
 use Rattle.support.proofs.PointRows.{firstPoints-from, firstPoints-end}
