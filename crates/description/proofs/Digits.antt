@@ -5,13 +5,13 @@
 --   more-end            : 1 to 4 digits read and nothing left
 --   more-empty, more-long, more-other : no digit, a fifth, and a byte that is none
 --   numeral-minus, numeral-plain : a number by its first byte
---   grown               : k digits have a value below 10 ^ k
+--   grown, fewer-digits : k digits have a value below 10 ^ k
 use Prim.Native.Nat.{ℕ, suc, _+_, _-_, _*_, _^_, _≤_, _<_}
 use mathlib.Core.Path.{_≡_, refl, sym, _∙_, ap}
 use mathlib.Core.Bool.{Bool, true, false, _&&_, true≢false}
 use mathlib.Core.List.{List, [], _∷_}
 use mathlib.Core.Option.{Option, none, some, Option·map}
-use native.Mathlib.Nat.{zero-add, add-zero, add-suc, suc-add, pow-suc, pow-le-pow-right}
+use native.Mathlib.Nat.{zero-add, add-zero, add-suc, suc-add, pow-suc, pow-le-pow-right, lt-of-lt-of-le}
 use native.Mathlib.Numerals.{add-one}
 use native.Mathlib.Omega.{arith}
 use lib.Dec.{leb, eqb}
@@ -79,5 +79,5 @@ numeral-plain (b ∷ bs) h = plain-step (endsWord b) b bs refl h
 pub grown : (k v d : ℕ) → v < 10 ^ k → d ≤ 9 → 10 * v + d < 10 ^ (k + 1)
 grown k v d h l = rw (add-one, pow-suc) (omega arith)
 
-pub four-digits : (k v : ℕ) → v < 10 ^ k → k ≤ 4 → v < 10000
-four-digits k v h l = omega (arith, pow-le-pow-right {n = 10} (omega arith) {i = k} {j = 4} l)
+pub fewer-digits : (m k v : ℕ) → v < 10 ^ k → k ≤ m → v < 10 ^ m
+fewer-digits m k v h l = lt-of-lt-of-le h (pow-le-pow-right {n = 10} (omega arith) {i = k} {j = m} l)

@@ -1,3 +1,5 @@
 pub mod Places
 pub mod Words
 pub mod Digits
+pub mod Reading
+pub mod Lines

@@ -1,3 +1,6 @@
+use mathlib.Core.Path.{_∙_}
+use lib.IntN.{pos, negℤ}
+use Rattle.integers.specs.Laws.{zero-+}
 use native.Mathlib.Omega.{arith}
 use Rattle.integers.specs.Bounds.{values, v-nat, fits, reads-as}
 use Prim.Native.Nat.{_≤_}
@@ -14,7 +17,7 @@ sub-result : tie.Need-sub-result
 sub-result c = let small : c .args .v ≤ 9999 = omega arith in fits (search (values, v-nat) depth 30) tt
 
 returns : tie.Need-returns
-returns c = let small : c .args .v ≤ 9999 = omega arith in reads-as (search (values, v-nat) depth 30) tt
+returns c = let small : c .args .v ≤ 9999 = omega arith in reads-as (search (values, v-nat) depth 30) tt ∙ zero-+ (negℤ (pos (c .args .v)))
 
 pub minus-spec : {M : Type 1} → statement M
 minus-spec = tie.close (tie.spec cast-result sub-result returns)
