@@ -3,3 +3,5 @@ pub mod Words
 pub mod Digits
 pub mod Reading
 pub mod Lines
+pub mod Judging
+pub mod Loading

@@ -2,11 +2,11 @@
 use answers::Refusal;
 use geometry::Point;
 ghost use mathlib.Core.Path.{_≡_};
-ghost use mathlib.Core.List.{_++_};
 ghost use mathlib.Core.Bool.{true};
 ghost use Prim.Native.Nat.{_+_, _-_, _*_, _<_, _≤_};
 ghost use lib.IntN.{pos, negℤ};
-ghost use lib.ListN.{length, take, drop, set};
+ghost use lib.ListN.{length, drop, set};
+ghost use lib.Seq.{paste};
 ghost use Rattle.description.specs.Description.{isDigit, linesRead, named, byLine, loadOf, listAfter, outcome};
 ghost use Rattle.description.specs.Scan.{isByte, isFeed, endsWord, afterSpaces, starts, ends, Reaches};
 ghost use Rattle.description.specs.Scan.{NaturalAt, NumberAt, LineAt, StepAt, Kept};
@@ -267,7 +267,7 @@ fn judge(text: &[u8], found: &mut [i16]) -> Loaded
 // Copies the first n numbers of one list over those of another.
 fn copy_front(source: &[i16], n: usize, list: &mut [i16])
     requires { ⌜ (n ≤ length (now source)) × (n ≤ length (now list)) ⌝ }
-    ensures { λ _. ⌜ now (list .exit) ≡ take n (now (source .entry)) ++ drop n (now (list .entry)) ⌝ }
+    ensures { λ _. ⌜ now (list .exit) ≡ paste (now (list .entry)) 0 (now (source .entry)) n ⌝ }
 {
     for i in 0..n {
         list[i] = source[i];
