@@ -28,3 +28,27 @@ fn all_in_em_box(list: &[i16]) -> bool
     }
     true
 }
+
+// The smallest disk that holds the list's points, by Welzl's move-to-front procedure (01: the disk engine). The list is left as the
+// procedure leaves it; a refused list is unchanged.
+pub fn smallest_disk(list: &mut [i16]) -> Enclosed
+    ensures answer { λ r. ⌜ outcome r ≡ encloseOf (now (list .entry)) ⌝ }
+    ensures order { λ _. ⌜ now (list .exit) ≡ listAfter (now (list .entry)) ⌝ }
+{
+    if list.len() % 2 == 1 {
+        return Enclosed::Refused(Refusal::OddLength);
+    }
+    if list.len() == 0 {
+        return Enclosed::Refused(Refusal::NoPoint);
+    }
+    if 4096 < list.len() / 2 {
+        return Enclosed::Refused(Refusal::TooMany);
+    }
+    if !all_in_em_box(list) {
+        return Enclosed::Refused(Refusal::OutsideBox);
+    }
+    let run = welzl::smallest(list);
+    let disk = run.disk;
+    let set = support::first_support(list, disk);
+    Enclosed::Found(disk, set, run.tests)
+}
