@@ -1,4 +1,5 @@
 pub mod ValidAnswer
 pub mod Records
 pub mod Demand2
+pub mod Demand3
 pub mod Letters

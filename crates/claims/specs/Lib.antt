@@ -1,2 +1,3 @@
 pub mod Demand2
+pub mod Demand3
 pub mod Letters
