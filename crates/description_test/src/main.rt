@@ -75,12 +75,12 @@ fn rooms(label: &[u8], text: &[u8], x: i16, y: i16) {
     report(label, text, &mut enough, x, y);
 }
 
-// Fills the bytes with lines "0 0".
-fn zeros(text: &mut [u8]) {
+// Fills the first n bytes with lines "0 0" and the others with spaces.
+fn zeros(text: &mut [u8], n: usize) {
     let mut i = 0;
     while i < text.len() {
         let k = i % 4;
-        text[i] = if k == 1 {
+        text[i] = if n <= i || k == 1 {
             b' '
         } else if k == 3 {
             b'\n'
@@ -91,15 +91,17 @@ fn zeros(text: &mut [u8]) {
     }
 }
 
-// Puts the bytes into the text from a place on.
+// Puts the bytes into the text from a place on, where they fit.
 fn put(text: &mut [u8], at: usize, bytes: &[u8]) {
+    if text.len() < at {
+        return;
+    }
+    if text.len() - at < bytes.len() {
+        return;
+    }
     let mut i = 0;
     while i < bytes.len() {
-        if i < text.len() {
-            if at < text.len() - i {
-                text[at + i] = bytes[i];
-            }
-        }
+        text[at + i] = bytes[i];
         i += 1;
     }
 }
@@ -107,7 +109,7 @@ fn put(text: &mut [u8], at: usize, bytes: &[u8]) {
 // 4,096 points (0, 0), then the bytes, then spaces.
 fn many(label: &[u8], bytes: &[u8], x: i16) {
     let mut text = [b' '; 16448];
-    zeros(&mut text[..16384]);
+    zeros(&mut text, 16384);
     put(&mut text, 16384, bytes);
     given(label, &text, x, x);
 }
