@@ -9,8 +9,9 @@ use mathlib.Core.Path.{_≡_, refl, sym, ap, ap₂, _∙_, subst}
 use mathlib.Core.Logic.{_↔_}
 use mathlib.Core.Bool.{true}
 use mathlib.Core.List.{List, [], _∷_, List·Permᴰ}
-use Prim.Native.Nat.{ℕ, _+_, _*_, _/_, _≤_}
+use Prim.Native.Nat.{ℕ, _+_, _*_, _/_, _%_, _≤_}
 use native.Mathlib.Omega.{arith}
+use lib.Dec.{T}
 use lib.IntN.{ℤ}
 use lib.ListN.{length, take}
 use Rattle.answers.specs.Outcome.{Outcome, given, andThen}
@@ -43,7 +44,7 @@ use Rattle.record.specs.Writing.{writeOf, bufferAfter}
 use Rattle.record.proofs.RoundTrip.{record-injective}
 use Rattle.claims.specs.Demand3.{ProcedureIsWelzls, AcceptedDescription, Answers, worked, WorkedOut, Demand3}
 use Rattle.claims.proofs.ValidAnswer.{valid-answer}
-use Rattle.claims.proofs.Records.{written, written-valid, filled}
+use Rattle.claims.proofs.Records.{written, in-front, filled}
 use Rattle.claims.proofs.Demand2.{engine-right}
 
 -- ---- the procedure
@@ -93,7 +94,7 @@ module _ {l m : List ℤ} {bs cs : List ℕ} (w : WorkedOut l bs) (v : WorkedOut
   equal-answers : bs ≡ cs → (d ≡ c) × (S ≡ R)
   equal-answers e =
       let same = record-injective (w .answer .disk) (v .answer .disk) (w .answer .support) (v .answer .support)
-          (valid-enclosure l (w .answer) (w .accepted)) (valid-enclosure m (v .answer) (v .accepted)) (sym (worked-bytes w) ∙ e ∙ worked-bytes v) in
+      (valid-enclosure l (w .answer) (w .accepted)) (valid-enclosure m (v .answer) (v .accepted)) (sym (worked-bytes w) ∙ e ∙ worked-bytes v) in
       (d-is ∙ same .0 ∙ sym c-is, S-is ∙ same .1 ∙ sym R-is)
 
   equal-bytes : (d ≡ c) × (S ≡ R) → bs ≡ cs
@@ -146,9 +147,12 @@ module _ {t : List ℕ} (a : AcceptedDescription t) (l : List ℤ) (b : List ℕ
   writes : writeOf (diskOf (named t)) (firstSupport (named t)) b ≡ given tt
   writes = written (diskOf (named t)) (firstSupport (named t)) b valid-named room
 
+  reaches : radiusOf (diskOf (named t)) (firstSupport (named t)) ≡ given (wholeRadius (diskOf (named t)))
+  reaches = rw valid-named
+
   worked-is : worked t l b ≡ given (answers (diskOf (named t)) (firstSupport (named t)))
   unfolding worked
-  worked-is = rw (loads, encloses, valid-named, writes, filled (diskOf (named t)) (firstSupport (named t)) b writes)
+  worked-is = rw (loads, encloses, reaches, writes, in-front (diskOf (named t)) (firstSupport (named t)) b valid-named)
 
 same-answers : (P Q : List Point) → Same P Q → answers (diskOf P) (firstSupport P) ≡ answers (diskOf Q) (firstSupport Q)
 same-answers P Q s = ap₂ answers (disk-same P Q s) (first-support-same P Q s)

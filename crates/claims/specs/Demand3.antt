@@ -56,7 +56,7 @@ pub record Answers : Type 0 where
   pub radius : ℕ
   pub bytes : List ℕ
 
-pub worked : List ℕ → List ℤ → List ℕ → Outcome Answers
+unfoldable pub worked : List ℕ → List ℤ → List ℕ → Outcome Answers
 worked t l b =
     andThen (loadOf t l) (λ n.
     andThen (encloseOf (take (2 * n) (description.listAfter t l))) (λ e.
