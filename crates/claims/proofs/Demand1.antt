@@ -46,14 +46,14 @@ sheet : (s : List ℕ) (k : ℕ) → Taken (glyphOf s k) ↔ SheetRules s k
 unfolding glyphOf
 sheet s k = (
   λ g. let one = not-refused _ 1 (g .1) in
-  let six = not-refused _ 6 (one .1) in
-  let pairs-kept = not-refused _ 6 (six .1) in
-  let ten = not-refused _ 10 (pairs-kept .1) in record {
-    short = ltb-false 65535 (length s) (one .0);
-    directory = ltb-false (length s) (directoryEnd s) (six .0);
-    in-order = not-false _ (pairs-kept .0);
-    glyph = leb-false (count s) k (ten .0);
-  },
+      let six = not-refused _ 6 (one .1) in
+      let pairs-kept = not-refused _ 6 (six .1) in
+      let ten = not-refused _ 10 (pairs-kept .1) in record {
+        short = ltb-false 65535 (length s) (one .0);
+        directory = ltb-false (length s) (directoryEnd s) (six .0);
+        in-order = not-false _ (pairs-kept .0);
+        glyph = leb-false (count s) k (ten .0);
+      },
   λ r. (pair s k, rw (le-ltb 65535 (length s) (r .short), le-ltb (length s) (directoryEnd s) (r .directory), r .in-order, lt-leb (count s) k (r .glyph))),
 )
 
