@@ -192,7 +192,8 @@ pub fn move_to_front(list: &mut [i16], i: usize)
     list[1] = y;
 }
 
-// B_MTFDISK on the first n points of the list, with R fixed on the boundary. Each of them is tested once here, and `inner` counts the tests of the calls.
+// B_MTFDISK on the first n points of the list, with R fixed on the boundary.
+// Each point is tested once here, so that n and the tests of the calls make the count.
 pub fn mtf(list: &mut [i16], n: usize, fixed: Boundary) -> RelativeRun
     requires { ⌜ Given fixed n (now list) ⌝ }
     ensures { λ r. ⌜ Ran fixed n (now (list .entry)) (now (list .exit)) (r .disk) (r .tests) ⌝ }
@@ -211,10 +212,8 @@ pub fn mtf(list: &mut [i16], n: usize, fixed: Boundary) -> RelativeRun
             move_to_front(list, i);
         }
     }
-    RelativeRun {
-        disk,
-        tests: inner + n as u64,
-    }
+    let tests = inner + n as u64;
+    RelativeRun { disk, tests }
 }
 
 // Centre (x/e, y/e) and squared radius s/e², without a common divisor of x, y and e.

@@ -210,8 +210,8 @@ module _ (t : ℕ) where
             (c .if2 .came),
       )
 
-  add-total : lts.Need-add-t22 (claims t) (mtf-at t) mtf.Post Inv-loop μ-loop
-  add-total c = omega (arith, counted (c .before))
+  add-tests : lts.Need-add-tests (claims t) (mtf-at t) mtf.Post Inv-loop μ-loop
+  add-tests c = omega (arith, counted (c .before))
 
   same-length : lts.Need-same-length (claims t) (mtf-at t) mtf.Post Inv-loop μ-loop
   same-length c = kept (c .before)
@@ -239,6 +239,6 @@ pub +mtf-spec : {M : Type 1} → statement M
     (add-i t)
     (loop-less t)
     (loop-again t)
-    (add-total t)
+    (add-tests t)
     (same-length t)
     (returns-2 t)
