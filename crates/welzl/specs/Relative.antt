@@ -5,7 +5,7 @@
 --   nothing                       == the empty disk: every point of the em box is outside it
 --   pointAbout, diameterAbout     == the disks of one point and of a diameter
 --   circleAbout q u v             == the circle through q, q + u and q + v
---   Coordinates, Differences, Near p, Small d == numbers with which no step of the test overflows
+--   Coordinates x y, Differences x y, Near p, Small d == numbers with which no step of the test overflows
 --   AnswerNumbers e q g           == numbers with which no step of writing the disk overflows
 --   Keeps d F                     == d is F, and small
 use mathlib.Core.Path.{_≡_}
