@@ -3,13 +3,13 @@
 --   raised d q          == the disk d, lifted by means of a point q on its boundary
 --   raised-written      : d is its own writing
 --   supports-strong, strong-supports : a set supports P where and only where the disk of P, lifted, is strongly minimal for the set
-use mathlib.Core.Path.{_≡_, refl, sym, _∙_, ap, subst}
+use mathlib.Core.Path.{_≡_}
 use mathlib.Core.List.{List, [], _∷_}
-use Prim.Native.Nat.{ℕ, _≤_, _∣_}
 use native.Mathlib.Omega.{arith}
 use lib.Dec.{T}
-use lib.IntN.{ℤ, pos, negsuc, natAbs, _+ℤ_, _-ℤ_, _*ℤ_}
+use lib.IntN.{ℤ, pos, _+ℤ_, _-ℤ_, _*ℤ_}
 use lib.Signed.{_<ℤ_}
+use Rattle.integers.specs.LowestTerms.{Reduced}
 use Rattle.integers.specs.Ring.{ring, poly, linear, eqn}
 use Rattle.geometry.specs.declared.Point.{Point}
 use Rattle.geometry.specs.declared.Disk.{Disk}
@@ -37,15 +37,16 @@ raised-radius q x y e s h = linear (q .x ∷ q .y ∷ x ∷ y ∷ e ∷ s ∷ []
 one-times : (e : ℤ) → e ≡ pos 1 *ℤ e
 one-times e = ring (e ∷ []) (search poly depth 30) tt
 
-pub raised-written : (d : Disk) (q : Point) → onBoundary d q → ((k : ℕ) → k ∣ natAbs (d .x) → k ∣ natAbs (d .y) → k ∣ d .e → k ≡ 1) → Written (raised d q) d
-raised-written d q on lowest = record {
+pub raised-written : (d : Disk) (q : Point) → onBoundary d q → Reduced (d .x) (d .y) (d .e)
+    → Written (raised d q) d
+raised-written d q on reduced = record {
   g = 1;
   g-some = omega arith;
   x-is = raised-centre (q .x) (pos (d .e)) (d .x);
   y-is = raised-centre (q .y) (pos (d .e)) (d .y);
   e-is = one-times (pos (d .e));
   s-is = raised-radius q (d .x) (d .y) (pos (d .e)) (pos (d .s)) on;
-  lowest = lowest;
+  reduced = reduced;
 }
 
 module _ (P : List Point) (F : Lifted) (proper : pos 0 <ℤ F .e) (w : Written F (diskOf P)) (q : Point) (S : List Point) where

@@ -18,7 +18,7 @@ use native.Mathlib.Omega.{arith}
 use lib.IntN.{ℤ, pos, negsuc, negℤ, natAbs, _+ℤ_, _-ℤ_, _*ℤ_}
 use lib.ListN.{length}
 use lib.Signed.{quotZ}
-use Rattle.integers.specs.Gcd.{gcd}
+use Rattle.integers.specs.LowestTerms.{common}
 use Rattle.geometry.specs.declared.Point.{Point}
 use Rattle.geometry.specs.declared.Disk.{Disk}
 use Rattle.geometry.specs.Plane.{holds}
@@ -36,7 +36,7 @@ outside (disk d) p = not (holds d p)
 -- centre (X/E, Y/E) and squared radius S/E², written without a common divisor of X, Y and E
 unfoldable pub lowestTerms : ℤ → ℤ → ℕ → ℕ → Disk
 lowestTerms X Y E S =
-    let g = gcd (gcd (natAbs X) (natAbs Y)) E in
+    let g = common X Y E in
     record { x = quotZ X (pos g); y = quotZ Y (pos g); e = E / g; s = S / (g * g) }
 
 abbrev pub norm : ℤ → ℤ → ℤ

@@ -1,0 +1,11 @@
+pub mod Row
+pub mod ValidLaws
+pub mod LeastLaws
+pub mod RadiusLaws
+pub mod SamePoint
+pub mod Stores
+pub mod ByteLaws
+pub mod Joined
+pub mod TenFields
+pub mod Meaning
+pub mod RoundTrip
