@@ -20,7 +20,7 @@ use Rattle.geometry.specs.declared.Point.{Point}
 use Rattle.geometry.specs.Plane.{inEmBox}
 use Rattle.geometry.specs.Points.{points, flat, pointAt, firstPoints}
 use Rattle.geometry.proofs.PointLists.{toFront, length-flat, firstPoints-flat, flat-firstPoints, length-firstPoints, firstPoints-next, firstPoints-fewer, pointAt-past, toFront-past, keep-past}
-use Rattle.disks.proofs.LiftedProcedure.{State, rimDisk, outside, tested}
+use Rattle.disks.proofs.LiftedProcedure.{State, rimDisk, tested}
 use Rattle.disks.proofs.Lists.{perm-in}
 use Rattle.welzl.specs.declared.Boundary.{Boundary}
 use Rattle.welzl.specs.declared.Boundary.the-variants.{None, One, Two, Three}

@@ -8,7 +8,7 @@
 --   near-box              : a point of the em box is near
 --   keeps-none, keeps-point, keeps-diameter, keeps-circle : the disk of none to three points on the boundary is kept
 --   outside-kept          : the test of a kept disk is that of the lifted one, for a point of the em box
-use mathlib.Core.Path.{_≡_, refl, sym, _∙_, ap, subst}
+use mathlib.Core.Path.{_≡_, refl, sym, _∙_, ap}
 use mathlib.Core.Logic.{_⊎_, inl, inr}
 use mathlib.Core.Bool.{Bool, true, false}
 use mathlib.Core.List.{[], _∷_}
