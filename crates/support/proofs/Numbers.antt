@@ -56,9 +56,9 @@ offset-value v e c {r} f h n q =
     v-back w64 (v-eq (q ∙ ap₂ (λ (a b : ℤ). a *ℤ pos e -ℤ b) (toZ-ofZ f) (reads-as (stored-value c h) tt)) (v-abs {z = v *ℤ pos e -ℤ c} n))
 
 pub midway-read :
-    (a b : ℤ) (e : ℕ) (c : ℤ) → SFits w16 a → SFits w16 b → SFits w64 c
-    → midway (toZ w16 (ofZ w16 a)) (toZ w16 (ofZ w16 b)) e (toZ w64 (ofZ w64 c)) ≡ midway a b e c
-midway-read a b e c f g h = ap₂ (λ (x y : ℤ). midway x y e (toZ w64 (ofZ w64 c))) (toZ-ofZ f) (toZ-ofZ g) ∙ ap (midway a b e) (toZ-ofZ h)
+    (a b : ℤ) (e : ℕ) (c : ℤ) {r : Bool} → SFits w16 a → SFits w16 b → SFits w64 c
+    → r ≡ midway (toZ w16 (ofZ w16 a)) (toZ w16 (ofZ w16 b)) e (toZ w64 (ofZ w64 c)) → r ≡ midway a b e c
+midway-read a b e c f g h q = q ∙ ap₂ (λ (x y : ℤ). midway x y e (toZ w64 (ofZ w64 c))) (toZ-ofZ f) (toZ-ofZ g) ∙ ap (midway a b e) (toZ-ofZ h)
 
 -- ---- sizes
 
