@@ -1,4 +1,5 @@
--- The search for the first support set, among the points on the disk's boundary, by tests of their coordinates.
+-- The search for the first support set, among the points on the disk's boundary, by tests of their coordinates. What it finds is said by
+-- `firstSupport` of the crate disks; these are the tests that the search makes instead of working out disks.
 --
 --   onBoundaryTest d p  == p is on d's boundary, as a test
 --   boundaryOf d P      == the points of P on d's boundary
@@ -7,7 +8,7 @@
 --   fits d T            == the test of a set of one, two or three points on d's boundary: the radius is 0, the two are opposite, the
 --                          three angles are acute
 --   firstFit d Q        == of the sets of one, then two, then three points of Q, each in Q's order, the first that passes the test
---   Small d             == the numbers of d are small enough for the tests of sets
+--   Small e c           == e and c are small enough that the tests of v·e − c and 2c fit 64 bits; SmallDisk d: those of d are
 --   Asked l d           == what the search asks: l is a list of at least one point and at most 4,096, all in the em box, and d is its
 --                          smallest disk
 use mathlib.Core.Path.{_≡_}
@@ -62,10 +63,12 @@ fits d (p ∷ q ∷ r ∷ t ∷ T) = false
 unfoldable pub firstFit : Disk → List Point → List Point
 firstFit d Q = firstOf (fits d) (candidates Q)
 
-pub record Small (d : Disk) : Type 0 where
-  pub e-most : d .e ≤ 2000000
-  pub x-most : natAbs (d .x) ≤ 2000000000
-  pub y-most : natAbs (d .y) ≤ 2000000000
+pub record Small (e : ℕ) (c : ℤ) : Type 0 where
+  pub e-most : e ≤ 2000000
+  pub c-most : natAbs c ≤ 2000000000
+
+abbrev pub SmallDisk : Disk → Type 0
+SmallDisk d = Small (d .e) (d .x) × Small (d .e) (d .y)
 
 pub record Asked (l : List ℤ) (d : Disk) : Type 0 where
   pub some : 2 ≤ length l

@@ -23,10 +23,10 @@ along-y c =
     (c .is-midway2 .ensures)
 
 is-midway-requires : tie.Need-is-midway-requires
-is-midway-requires c κs = let s = c .before .before .before in (s .pre .e-most, stored-small (s .args .disk .x) (s .pre .x-most))
+is-midway-requires c κs = let t = c .before .before .before in stored-small (t .args .disk .e) (t .args .disk .x) (t .pre .0)
 
 is-midway-requires-2 : tie.Need-is-midway-requires-2
-is-midway-requires-2 c κs = let s = c .before .before .before .before .before .before .before .before in (s .pre .e-most, stored-small (s .args .disk .y) (s .pre .y-most))
+is-midway-requires-2 c κs = let t = c .before .before .before .before .before .before .before .before in stored-small (t .args .disk .e) (t .args .disk .y) (t .pre .1)
 
 returns : tie.Need-returns
 unfolding opposite
