@@ -3,8 +3,10 @@
 --
 --   onBoundaryTest d p  == p is on d's boundary, as a test
 --   boundaryOf d P      == the points of P on d's boundary
+--   midway a b e c      == c/e is midway between a and b
 --   opposite d p q      == d's centre is midway between p and q
---   acute p q r         == the three angles of the triangle p q r are acute
+--   acuteAt a b c       == the angle at a of the triangle a b c is acute
+--   acute p q r         == its three angles are
 --   fits d T            == the test of a set of one, two or three points on d's boundary: the radius is 0, the two are opposite, the
 --                          three angles are acute
 --   firstFit d Q        == of the sets of one, then two, then three points of Q, each in Q's order, the first that passes the test
@@ -38,14 +40,14 @@ boundaryOf d (p ∷ P) = keep (onBoundaryTest d p) (boundaryOf d P)
     keep true Q = p ∷ Q
     keep false Q = Q
 
--- (a + b)e = 2c: c/e is midway between a and b
+-- (a + b)e = 2c
 unfoldable pub midway : ℤ → ℤ → ℕ → ℤ → Bool
 midway a b e c = eqZ ((a +ℤ b) *ℤ pos e) (pos 2 *ℤ c)
 
 unfoldable pub opposite : Disk → Point → Point → Bool
 opposite d p q = midway (p .x) (q .x) (d .e) (d .x) && midway (p .y) (q .y) (d .e) (d .y)
 
--- (b − a)·(c − a) > 0: the angle at a is acute
+-- (b − a)·(c − a) > 0
 unfoldable pub acuteAt : Point → Point → Point → Bool
 acuteAt a b c = ltZ (pos 0) ((b .x -ℤ a .x) *ℤ (c .x -ℤ a .x) +ℤ (b .y -ℤ a .y) *ℤ (c .y -ℤ a .y))
 
