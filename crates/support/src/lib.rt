@@ -16,7 +16,7 @@ ghost use Rattle.support.specs.Search.{onBoundaryTest, boundaryOf, midwa
 ghost use Rattle.support.specs.Place.{placeOf, putAt, insertedAt};
 
 // Where a point goes in a rising list: at a place, or nowhere since it is there.
-pub enum Place {
+enum Place {
     At(usize),
     There,
 }
@@ -29,7 +29,7 @@ fn offset(v: i16, e: u64, c: i64) -> i64
     geometry::wide(v) * (e as i64) - c
 }
 
-// Whether p is on the disk's boundary.
+// Whether p is on the disk's boundary (01: on the rim).
 fn on_boundary(disk: Disk, p: Point) -> bool
     requires { ⌜ Limits disk × T (inEmBox p) ⌝ }
     ensures { λ r. ⌜ r ≡ onBoundaryTest disk p ⌝ }
@@ -139,7 +139,8 @@ fn insert_point(list: &mut [i16], n: usize, p: Point) -> usize
     }
 }
 
-// Writes the points of the list on the disk's boundary to `out`, rising and each once, and returns how many there are.
+// Writes the points of the list on the disk's boundary to `out`, rising and each once, and returns how many there are. They are taken from
+// the last on, as `sorted` has it.
 fn collect(list: &[i16], disk: Disk, out: &mut [i16]) -> usize
     requires { ⌜ Limits disk × (allInEmBox (points (now list)) ≡ true) × (length (now list) ≤ length (now out)) ⌝ }
     ensures size { λ r. ⌜ r ≡ length (sorted (boundaryOf disk (points (now (list .entry))))) ⌝ }
@@ -195,7 +196,7 @@ fn search(list: &[i16], n: usize, disk: Disk) -> SupportSet
     found
 }
 
-// The first support set of the list, whose smallest disk is given.
+// The first support set of the list (01: the first rim set), whose smallest disk is given.
 pub fn first_support(list: &[i16], disk: Disk) -> SupportSet
     requires { ⌜ Asked (now list) disk ⌝ }
     ensures { λ r. ⌜ members r ≡ firstSupport (points (now (list .entry))) ⌝ }
