@@ -5,4 +5,3 @@ pub mod Boundary
 pub mod Left
 pub mod SetTests
 pub mod Found
-pub mod SamePoints
