@@ -219,8 +219,8 @@ module _ (F : Lifted) (proper : pos 0 <ℤ F .e) (a b c : Point) (ha : value F a
         (sq (B .x -ℤ A .x) ⊞ sq (B .y -ℤ A .y)),
   )
     where
-      sum3 : (u v w : ℤ) → pos 0 <ℤ u → pos 0 <ℤ v → pos 0 <ℤ w → pos 0 <ℤ (u +ℤ v +ℤ w)
-      sum3 u v w hu hv hw = positive (u ∷ v ∷ w ∷ []) (lt hu ⊞ lt hv ⊞ lt hw ⊞ nn 2) (search poly depth 30) tt
+      sum-of-three : (u v w : ℤ) → pos 0 <ℤ u → pos 0 <ℤ v → pos 0 <ℤ w → pos 0 <ℤ (u +ℤ v +ℤ w)
+      sum-of-three u v w hu hv hw = positive (u ∷ v ∷ w ∷ []) (lt hu ⊞ lt hv ⊞ lt hw ⊞ nn 2) (search poly depth 30) tt
 
       whole : pos 0 <ℤ area
-      whole = sum3 (cross A B) (cross B C) (cross C A) wc wa wb
+      whole = sum-of-three (cross A B) (cross B C) (cross C A) wc wa wb

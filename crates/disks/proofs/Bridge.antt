@@ -210,14 +210,14 @@ module _ (k : ℕ) (R : List Point) (W : Lifted) (agree : Agree k) (size : lengt
       → through (step (run k) R) (image s) ps ≡ image (L.one-by-one (L.turn-at (L.runWith k) R) s ps)
   unfolding through L.one-by-one
   through-image Q [] s f r = refl
-  through-image Q (p ∷ ps) s f r = ap (λ (t : State). through (step (run k) R) t ps) (step-image Q p s here r)
-      ∙ through-image (Q ++ (p ∷ [])) ps (L.turn-at (L.runWith k) R s p) f' (turn-ran k R Q p s W (run-ran k) size d here r)
+  through-image Q (p ∷ ps) s f r = ap (λ (t : State). through (step (run k) R) t ps) (step-image Q p s next-feasible r)
+      ∙ through-image (Q ++ (p ∷ [])) ps (L.turn-at (L.runWith k) R s p) all-feasible (turn-ran k R Q p s W (run-ran k) size d next-feasible r)
     where
-      f' : Feasible ((Q ++ (p ∷ [])) ++ ps) R W
-      f' = subst (λ (P : List Point). Feasible P R W) (sym (next Q ps p)) f
+      all-feasible : Feasible ((Q ++ (p ∷ [])) ++ ps) R W
+      all-feasible = subst (λ (P : List Point). Feasible P R W) (sym (next Q ps p)) f
 
-      here : Feasible (Q ++ (p ∷ [])) R W
-      here = feasible-front (Q ++ (p ∷ [])) ps f'
+      next-feasible : Feasible (Q ++ (p ∷ [])) R W
+      next-feasible = feasible-front (Q ++ (p ∷ [])) ps all-feasible
 
 pub run-image : (k : ℕ) → Agree k
 unfolding run L.runWith

@@ -87,7 +87,8 @@ most-next k n = ap (most (suc k)) (add-one n)
 most-last : (k : ℕ) (Q : List Point) (p : Point) → most (suc k) (length (Q ++ (p ∷ []))) ≡ most (suc k) (length Q) + 1 + most k (length Q)
 most-last k Q p = ap (most (suc k)) (length-append Q (p ∷ [])) ∙ most-next k (length Q)
 
-module _ (k : ℕ) (R Q : List Point) (p : Point) (s : State) (W : Lifted) (right : Right k) (size : length R + suc k ≡ 3) (d : Different R) (f : Feasible (Q ++ (p ∷ [])) R W) (r : Ran (suc k) R Q s) where
+module _ (k : ℕ) (R Q : List Point) (p : Point) (s : State) (W : Lifted)
+    (right : Right k) (size : length R + suc k ≡ 3) (d : Different R) (f : Feasible (Q ++ (p ∷ [])) R W) (r : Ran (suc k) R Q s) where
   same-last : Same (p ∷ Q) (Q ++ (p ∷ []))
   same-last = same-sym (perm-same (last-first Q p))
 

@@ -151,6 +151,16 @@ lexical-earlier k (S ∷ cs) f l = (
 chosen-earlier : (k : ℕ) (Q : List Point) → Rising Q → Later Earlier (choose k Q)
 chosen-earlier k Q r = lexical-earlier k (choose k Q) (choose-length k Q) (choose-lexical k Q r)
 
+pub candidates-earlier : (Q : List Point) → Rising Q → Later Earlier (candidates Q)
+candidates-earlier Q r = later-append Earlier (choose 1 Q) (choose 2 Q ++ choose 3 Q) (chosen-earlier 1 Q r)
+    (later-append Earlier (choose 2 Q) (choose 3 Q) (chosen-earlier 2 Q r) (chosen-earlier 3 Q r)
+    (λ S R i j. fewer (omega (arith, choose-length 2 Q S i, choose-length 3 Q R j))))
+    (λ S R i j. one-first S R i (List·Memᴰ·append-cases (choose 2 Q) j))
+  where
+    one-first : (S R : List Point) → Among S (choose 1 Q) → Among R (choose 2 Q) ⊎ Among R (choose 3 Q) → Earlier S R
+    one-first S R i (inl j) = fewer (omega (arith, choose-length 1 Q S i, choose-length 2 Q R j))
+    one-first S R i (inr j) = fewer (omega (arith, choose-length 1 Q S i, choose-length 3 Q R j))
+
 pub record Candidate (Q S : List Point) : Type 0 where
   pub rises : Rising S
   pub members : (x : Point) → In x S → In x Q
@@ -182,16 +192,6 @@ a-candidate Q (a ∷ b ∷ d ∷ e ∷ S) r c = absurd (no (length S) (c .most))
   where
     no : (n : ℕ) → suc (suc (suc (suc n))) ≤ 3 → ⊥
     no n h = omega arith
-
-pub candidates-earlier : (Q : List Point) → Rising Q → Later Earlier (candidates Q)
-candidates-earlier Q r = later-append Earlier (choose 1 Q) (choose 2 Q ++ choose 3 Q) (chosen-earlier 1 Q r)
-    (later-append Earlier (choose 2 Q) (choose 3 Q) (chosen-earlier 2 Q r) (chosen-earlier 3 Q r)
-    (λ S R i j. fewer (omega (arith, choose-length 2 Q S i, choose-length 3 Q R j))))
-    (λ S R i j. one-first S R i (List·Memᴰ·append-cases (choose 2 Q) j))
-  where
-    one-first : (S R : List Point) → Among S (choose 1 Q) → Among R (choose 2 Q) ⊎ Among R (choose 3 Q) → Earlier S R
-    one-first S R i (inl j) = fewer (omega (arith, choose-length 1 Q S i, choose-length 2 Q R j))
-    one-first S R i (inr j) = fewer (omega (arith, choose-length 1 Q S i, choose-length 3 Q R j))
 
 -- ---- the first set
 

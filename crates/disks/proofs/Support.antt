@@ -106,7 +106,9 @@ module _ {P : List Point} {F : Lifted} (m : StronglyMinimal P [] F) where
       (λ p i z. subst (λ (w : ℤ). pos 0 <ℤ w)
       (sym (add-arms (arm F (k .l) .x) (arm F (k .r) .x) (arm F (k .l) .y) (arm F (k .r) .y) (arm F p .x) (arm F p .y))) (k .front p (all p i z)))
 
-  module _ (c : Point) (qs : List Point) (inside : (p : Point) → In p (c ∷ qs) → In p P) (on-boundary : (p : Point) → In p (c ∷ qs) → value F p ≡ pos 0) (all : (p : Point) → In p P → value F p ≡ pos 0 → In p (c ∷ qs)) where
+  module _ (c : Point) (qs : List Point) (inside : (p : Point) → In p (c ∷ qs) → In p P)
+      (on-boundary : (p : Point) → In p (c ∷ qs) → value F p ≡ pos 0)
+      (all : (p : Point) → In p P → value F p ≡ pos 0 → In p (c ∷ qs)) where
     proper : pos 0 <ℤ F .e
     proper = m .feasible .proper
 
