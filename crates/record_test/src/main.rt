@@ -107,184 +107,616 @@ fn end_line() {
     io::write_all(1, b"\n");
 }
 
-fn disk(x: i64, y: i64, e: u64, s: u64) -> Disk {
-    Disk { x, y, e, s }
+fn f_disk() -> Disk {
+    Disk {
+        x: 12,
+        y: 5,
+        e: 6,
+        s: 169,
+    }
 }
 
-fn one(x: i16, y: i16) -> SupportSet {
-    SupportSet::One(Point { x, y })
+fn f_points() -> SupportSet {
+    SupportSet::Three(
+        Point { x: 0, y: 0 },
+        Point { x: 2, y: 3 },
+        Point { x: 4, y: 0 },
+    )
 }
 
-fn two(x: i16, y: i16, v: i16, w: i16) -> SupportSet {
-    SupportSet::Two(Point { x, y }, Point { x: v, y: w })
+// The disks of the cases, one a row: the letters A to K, numbers at their limits, then disks that break a rule.
+const XS: [i64; 41] = [
+    0,
+    3,
+    2,
+    5,
+    3,
+    12,
+    5,
+    7,
+    1,
+    2,
+    500,
+    0,
+    1000,
+    1_999_999_999,
+    1,
+    12,
+    12,
+    12,
+    12,
+    0,
+    -1,
+    6001,
+    -9_223_372_036_854_775_808,
+    9_223_372_036_854_775_807,
+    12,
+    12,
+    12,
+    12,
+    12,
+    12,
+    12,
+    12,
+    12,
+    12,
+    12,
+    12,
+    12,
+    12,
+    12,
+    12,
+    12,
+];
+
+const YS: [i64; 41] = [
+    0,
+    0,
+    0,
+    5,
+    4,
+    5,
+    0,
+    7,
+    1,
+    0,
+    250,
+    -250,
+    750,
+    -499_999_999,
+    -7,
+    5,
+    5,
+    5,
+    6,
+    0,
+    5,
+    5,
+    5,
+    5,
+    -1501,
+    4501,
+    -9_223_372_036_854_775_808,
+    5,
+    5,
+    5,
+    5,
+    5,
+    5,
+    5,
+    5,
+    5,
+    5,
+    5,
+    5,
+    5,
+    5,
+];
+
+const ES: [u64; 41] = [
+    1,
+    2,
+    1,
+    1,
+    1,
+    6,
+    1,
+    1,
+    1,
+    1,
+    1,
+    1,
+    1,
+    2_000_000,
+    3,
+    0,
+    2_000_001,
+    18_446_744_073_709_551_615,
+    6,
+    5,
+    6,
+    6,
+    6,
+    6,
+    6,
+    6,
+    6,
+    6,
+    6,
+    6,
+    6,
+    6,
+    6,
+    6,
+    6,
+    6,
+    6,
+    6,
+    6,
+    6,
+    6,
+];
+
+const SS: [u64; 41] = [
+    0,
+    9,
+    4,
+    50,
+    25,
+    169,
+    25,
+    0,
+    2,
+    4,
+    500_000,
+    500_000,
+    1,
+    2_000_000_000_000_000_000,
+    11,
+    0,
+    169,
+    169,
+    169,
+    169,
+    169,
+    169,
+    169,
+    169,
+    169,
+    169,
+    169,
+    18_000_001,
+    18_446_744_073_709_551_615,
+    169,
+    169,
+    169,
+    169,
+    169,
+    169,
+    169,
+    169,
+    169,
+    169,
+    169,
+    169,
+];
+// How many points each case has, and the three points, x and y by turns.
+const COUNTS: [u8; 41] = [
+    1,
+    2,
+    2,
+    2,
+    2,
+    3,
+    2,
+    1,
+    2,
+    2,
+    2,
+    1,
+    1,
+    2,
+    3,
+    3,
+    3,
+    3,
+    3,
+    3,
+    3,
+    3,
+    3,
+    3,
+    3,
+    3,
+    3,
+    3,
+    3,
+    2,
+    2,
+    2,
+    3,
+    3,
+    3,
+    1,
+    2,
+    3,
+    3,
+    1,
+    1,
+];
+
+const PS: [i16; 246] = [
+    0,
+    0,
+    0,
+    0,
+    0,
+    0,
+    0,
+    0,
+    3,
+    0,
+    3,
+    0,
+    0,
+    0,
+    4,
+    0,
+    4,
+    0,
+    0,
+    0,
+    10,
+    10,
+    10,
+    10,
+    0,
+    8,
+    6,
+    0,
+    6,
+    0,
+    0,
+    0,
+    2,
+    3,
+    4,
+    0,
+    0,
+    0,
+    10,
+    0,
+    10,
+    0,
+    7,
+    7,
+    7,
+    7,
+    7,
+    7,
+    0,
+    0,
+    2,
+    2,
+    2,
+    2,
+    0,
+    0,
+    4,
+    0,
+    4,
+    0,
+    0,
+    -250,
+    1000,
+    750,
+    1000,
+    750,
+    0,
+    -250,
+    0,
+    -250,
+    0,
+    -250,
+    1000,
+    750,
+    1000,
+    750,
+    1000,
+    750,
+    0,
+    -250,
+    1000,
+    750,
+    1000,
+    750,
+    3,
+    -9,
+    3,
+    -8,
+    4,
+    -250,
+    0,
+    0,
+    2,
+    3,
+    4,
+    0,
+    0,
+    0,
+    2,
+    3,
+    4,
+    0,
+    0,
+    0,
+    2,
+    3,
+    4,
+    0,
+    0,
+    0,
+    2,
+    3,
+    4,
+    0,
+    0,
+    0,
+    2,
+    3,
+    4,
+    0,
+    0,
+    0,
+    2,
+    3,
+    4,
+    0,
+    0,
+    0,
+    2,
+    3,
+    4,
+    0,
+    0,
+    0,
+    2,
+    3,
+    4,
+    0,
+    0,
+    0,
+    2,
+    3,
+    4,
+    0,
+    0,
+    0,
+    2,
+    3,
+    4,
+    0,
+    0,
+    0,
+    2,
+    3,
+    4,
+    0,
+    0,
+    0,
+    2,
+    3,
+    4,
+    0,
+    0,
+    0,
+    2,
+    3,
+    4,
+    0,
+    0,
+    0,
+    2,
+    3,
+    4,
+    0,
+    2,
+    3,
+    2,
+    3,
+    2,
+    3,
+    2,
+    3,
+    0,
+    0,
+    0,
+    0,
+    2,
+    3,
+    2,
+    2,
+    2,
+    2,
+    0,
+    0,
+    0,
+    0,
+    4,
+    0,
+    0,
+    0,
+    4,
+    0,
+    4,
+    0,
+    0,
+    0,
+    4,
+    0,
+    2,
+    3,
+    -1,
+    0,
+    -1,
+    0,
+    -1,
+    0,
+    0,
+    0,
+    1001,
+    0,
+    1001,
+    0,
+    0,
+    -251,
+    2,
+    3,
+    4,
+    0,
+    0,
+    0,
+    2,
+    751,
+    4,
+    0,
+    -32_768,
+    0,
+    -32_768,
+    0,
+    -32_768,
+    0,
+    0,
+    32_767,
+    0,
+    32_767,
+    0,
+    32_767,
+];
+
+fn case_disk(k: usize) -> Disk {
+    if k < 41 {
+        let x = XS[k];
+        let y = YS[k];
+        let e = ES[k];
+        let s = SS[k];
+        return Disk { x, y, e, s };
+    }
+    f_disk()
 }
 
-fn three(a: Point, b: Point, c: Point) -> SupportSet {
-    SupportSet::Three(a, b, c)
+fn case_point(i: usize) -> Point {
+    if i < 123 {
+        let x = PS[2 * i];
+        let y = PS[2 * i + 1];
+        return Point { x, y };
+    }
+    Point { x: 0, y: 0 }
 }
 
-fn point(x: i16, y: i16) -> Point {
-    Point { x, y }
+fn case_points(k: usize) -> SupportSet {
+    if k < 41 {
+        if COUNTS[k] == 1 {
+            return SupportSet::One(case_point(3 * k));
+        }
+        if COUNTS[k] == 2 {
+            return SupportSet::Two(case_point(3 * k), case_point(3 * k + 1));
+        }
+        return SupportSet::Three(
+            case_point(3 * k),
+            case_point(3 * k + 1),
+            case_point(3 * k + 2),
+        );
+    }
+    f_points()
 }
 
-// One line a step: written into a buffer of 44 bytes, read back, the radius.
-fn letter(name: &[u8], d: Disk, t: SupportSet) {
+// Written into a buffer of 44 bytes, read back, the radius.
+fn show_case(d: Disk, t: SupportSet) {
     let mut buf = [0xaau8; 44];
-    io::write_all(1, name);
     show_write(d, t, &mut buf);
-    end_line();
-    io::write_all(1, name);
     show_read(&buf);
-    end_line();
-    io::write_all(1, name);
     show_radius(d, t);
     end_line();
 }
 
-fn f_disk() -> Disk {
-    disk(12, 5, 6, 169)
+fn cases() {
+    let mut k: usize = 0;
+    while k < 41 {
+        io::write_all(1, b"case ");
+        io::print_decimal(1, k as u64);
+        show_case(case_disk(k), case_points(k));
+        k += 1;
+    }
 }
 
-fn f_points() -> SupportSet {
-    three(point(0, 0), point(2, 3), point(4, 0))
-}
-
-fn letters() {
-    letter(b"A", disk(0, 0, 1, 0), one(0, 0));
-    letter(b"B", disk(3, 0, 2, 9), two(0, 0, 3, 0));
-    letter(b"C", disk(2, 0, 1, 4), two(0, 0, 4, 0));
-    letter(b"D", disk(5, 5, 1, 50), two(0, 0, 10, 10));
-    letter(b"E", disk(3, 4, 1, 25), two(0, 8, 6, 0));
-    letter(b"F", f_disk(), f_points());
-    letter(b"G", disk(5, 0, 1, 25), two(0, 0, 10, 0));
-    letter(b"H", disk(7, 7, 1, 0), one(7, 7));
-    letter(b"I", disk(1, 1, 1, 2), two(0, 0, 2, 2));
-    letter(b"J", disk(2, 0, 1, 4), two(0, 0, 4, 0));
-    letter(b"K", disk(500, 250, 1, 500_000), two(0, -250, 1000, 750));
-}
-
-// Numbers at their limits, negative ones among them.
-fn edges() {
-    letter(b"left foot", disk(0, -250, 1, 500_000), one(0, -250));
-    letter(b"right top", disk(1000, 750, 1, 1), one(1000, 750));
-    letter(
-        b"largest",
-        disk(
-            1_999_999_999,
-            -499_999_999,
-            2_000_000,
-            2_000_000_000_000_000_000,
-        ),
-        two(0, -250, 1000, 750),
-    );
-    letter(
-        b"negative",
-        disk(1, -7, 3, 11),
-        three(point(3, -9), point(3, -8), point(4, -250)),
-    );
+fn buffer_of(n: usize, buf: &mut [u8]) {
+    io::write_all(1, b"buffer of ");
+    io::print_decimal(1, n as u64);
+    show_write(f_disk(), f_points(), buf);
+    show_write(case_disk(15), f_points(), buf);
+    end_line();
 }
 
 fn buffers() {
     let mut none = [0xaau8; 0];
     let mut short = [0xaau8; 43];
     let mut long = [0xaau8; 50];
-    io::write_all(1, b"buffer of 0");
-    show_write(f_disk(), f_points(), &mut none);
-    end_line();
-    io::write_all(1, b"buffer of 43");
-    show_write(f_disk(), f_points(), &mut short);
-    end_line();
-    io::write_all(1, b"buffer of 50");
-    show_write(f_disk(), f_points(), &mut long);
-    end_line();
-    io::write_all(1, b"buffer of 43, not valid");
-    show_write(disk(12, 5, 0, 169), f_points(), &mut short);
-    end_line();
-    io::write_all(1, b"buffer of 50, not valid");
-    show_write(disk(12, 5, 0, 169), f_points(), &mut long);
-    end_line();
+    buffer_of(0, &mut none);
+    buffer_of(43, &mut short);
+    buffer_of(50, &mut long);
 }
 
-// Written, read or its radius asked for, it is refused as 7.
-fn broken(name: &[u8], d: Disk, t: SupportSet) {
-    let mut buf = [0xaau8; 44];
-    io::write_all(1, name);
-    show_radius(d, t);
-    show_write(d, t, &mut buf);
-    end_line();
-}
+// The places and the new bytes of the damaged records.
+const PLACES: [usize; 22] = [
+    0,
+    0,
+    6,
+    6,
+    8,
+    14,
+    15,
+    23,
+    20,
+    28,
+    31,
+    33,
+    32,
+    34,
+    37,
+    37,
+    38,
+    38,
+    40,
+    41,
+    42,
+    42,
+];
 
-fn broken_disks() {
-    broken(b"E 0", disk(12, 5, 0, 0), f_points());
-    broken(b"E 2000001", disk(12, 5, 2_000_001, 169), f_points());
-    broken(
-        b"E largest",
-        disk(12, 5, 0xffff_ffff_ffff_ffff, 169),
-        f_points(),
-    );
-    broken(b"divided by 2", disk(12, 6, 6, 169), f_points());
-    broken(b"divided by 5", disk(0, 0, 5, 169), f_points());
-    broken(b"X -1", disk(-1, 5, 6, 169), f_points());
-    broken(b"X 6001", disk(6001, 5, 6, 169), f_points());
-    broken(
-        b"X least",
-        disk(-9_223_372_036_854_775_808, 5, 6, 169),
-        f_points(),
-    );
-    broken(
-        b"X largest",
-        disk(9_223_372_036_854_775_807, 5, 6, 169),
-        f_points(),
-    );
-    broken(b"Y -1501", disk(12, -1501, 6, 169), f_points());
-    broken(b"Y 4501", disk(12, 4501, 6, 169), f_points());
-    broken(
-        b"Y least",
-        disk(12, -9_223_372_036_854_775_808, 6, 169),
-        f_points(),
-    );
-    broken(b"S 18000001", disk(12, 5, 6, 18_000_001), f_points());
-    broken(
-        b"S largest",
-        disk(12, 5, 6, 0xffff_ffff_ffff_ffff),
-        f_points(),
-    );
-}
-
-fn broken_points() {
-    broken(b"same point twice", f_disk(), two(2, 3, 2, 3));
-    broken(b"falling", f_disk(), two(2, 3, 0, 0));
-    broken(b"falling in y", f_disk(), two(2, 3, 2, 2));
-    broken(
-        b"first two same",
-        f_disk(),
-        three(point(0, 0), point(0, 0), point(4, 0)),
-    );
-    broken(
-        b"last two same",
-        f_disk(),
-        three(point(0, 0), point(4, 0), point(4, 0)),
-    );
-    broken(
-        b"last two fall",
-        f_disk(),
-        three(point(0, 0), point(4, 0), point(2, 3)),
-    );
-    broken(b"x -1", f_disk(), one(-1, 0));
-    broken(b"x 1001", f_disk(), two(0, 0, 1001, 0));
-    broken(
-        b"y -251",
-        f_disk(),
-        three(point(0, -251), point(2, 3), point(4, 0)),
-    );
-    broken(
-        b"y 751",
-        f_disk(),
-        three(point(0, 0), point(2, 751), point(4, 0)),
-    );
-    broken(b"x least", f_disk(), one(-32_768, 0));
-    broken(b"y largest", f_disk(), one(0, 32_767));
-}
+const BYTES: [u8; 22] = [
+    0,
+    128,
+    24,
+    22,
+    255,
+    18,
+    6,
+    0,
+    1,
+    2,
+    170,
+    3,
+    128,
+    3,
+    5,
+    0,
+    3,
+    255,
+    4,
+    1,
+    255,
+    128,
+];
 
 // What is read with one byte changed.
 fn show_changed(bytes: &mut [u8], at: usize, value: u8) {
@@ -295,37 +727,31 @@ fn show_changed(bytes: &mut [u8], at: usize, value: u8) {
 }
 
 // The record of F with one byte changed.
-fn damaged(name: &[u8], at: usize, value: u8) {
+fn damaged(at: usize, value: u8) {
     let mut buf = [0u8; 44];
     record::write_record(f_disk(), f_points(), &mut buf);
-    io::write_all(1, name);
+    io::write_all(1, b"byte ");
+    io::print_decimal(1, at as u64);
     show_changed(&mut buf, at, value);
     end_line();
 }
 
 fn damages() {
-    damaged(b"nothing", 0, 0);
-    damaged(b"X negative", 0, 0x80);
-    damaged(b"X beyond the box", 6, 0x18);
-    damaged(b"X within the box", 6, 0x17);
-    damaged(b"Y negative", 8, 0xff);
-    damaged(b"Y beyond the box", 14, 0x12);
-    damaged(b"Y divisible", 15, 6);
-    damaged(b"E zero", 23, 0);
-    damaged(b"E too large", 20, 1);
-    damaged(b"S too large", 28, 2);
-    damaged(b"S another", 31, 0xaa);
-    damaged(b"first x beyond the second", 33, 3);
-    damaged(b"first x negative", 32, 0x80);
-    damaged(b"first y beyond the box", 34, 3);
-    damaged(b"second x beyond the third", 37, 5);
-    damaged(b"second x as the first", 37, 0);
-    damaged(b"second y beyond the box", 38, 3);
-    damaged(b"second y negative", 38, 0xff);
-    damaged(b"third x beyond the box", 40, 4);
-    damaged(b"third x before the second", 41, 1);
-    damaged(b"third y negative", 42, 0xff);
-    damaged(b"third y least", 42, 0x80);
+    let mut k: usize = 0;
+    while k < 22 {
+        damaged(PLACES[k], BYTES[k]);
+        k += 1;
+    }
+}
+
+// F's record made a, b, c with b's x as a's, and then a, a, c: only the last point may be repeated.
+fn repeated() {
+    let mut buf = [0u8; 44];
+    record::write_record(f_disk(), f_points(), &mut buf);
+    io::write_all(1, b"repeated");
+    show_changed(&mut buf, 37, 0);
+    show_changed(&mut buf, 39, 0);
+    end_line();
 }
 
 // What is read in the first n bytes.
@@ -348,6 +774,14 @@ fn lengths() {
     show_front(&long, 50);
 }
 
+fn on_foot(x: i64, e: u64, s: u64) -> Disk {
+    Disk { x, y: 0, e, s }
+}
+
+fn origin() -> SupportSet {
+    SupportSet::One(Point { x: 0, y: 0 })
+}
+
 // The radii of S at r²E² and beside it.
 fn squares(x: i64, e: u64, r: u64) {
     if e < 1000 {
@@ -355,10 +789,10 @@ fn squares(x: i64, e: u64, r: u64) {
             let s = r * e * (r * e);
             io::write_all(1, b"square");
             if 0 < s {
-                show_radius(disk(x, 0, e, s - 1), one(0, 0));
+                show_radius(on_foot(x, e, s - 1), origin());
             }
-            show_radius(disk(x, 0, e, s), one(0, 0));
-            show_radius(disk(x, 0, e, s + 1), one(0, 0));
+            show_radius(on_foot(x, e, s), origin());
+            show_radius(on_foot(x, e, s + 1), origin());
             end_line();
         }
     }
@@ -375,12 +809,10 @@ fn radii() {
 }
 
 fn main() {
-    letters();
-    edges();
+    cases();
     buffers();
-    broken_disks();
-    broken_points();
     damages();
+    repeated();
     lengths();
     radii();
 }
