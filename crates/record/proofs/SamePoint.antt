@@ -3,8 +3,8 @@
 --   eqZ-eq, eqZ-refl   : `eqZ` decides equality of whole numbers
 --   same-eq, same-refl : `same` decides equality of points
 --   same-bits          : coordinates are compared by their bits
-use mathlib.Core.Path.{_≡_, refl, sym, ap, ap₂, _∙_, subst}
-use mathlib.Core.Bool.{Bool, true, false, true≢false, _&&_}
+use mathlib.Core.Path.{_≡_, refl, sym, ap, _∙_, subst}
+use mathlib.Core.Bool.{Bool, true, false, true≢false}
 use borrow.Author.Tests.{eqb-true, eq-eqb}
 use lib.Dec.{eqb}
 use lib.IntN.{ℤ}

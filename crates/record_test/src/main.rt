@@ -107,528 +107,104 @@ fn end_line() {
     io::write_all(1, b"\n");
 }
 
+fn disk(x: i64, y: i64, e: u64, s: u64) -> Disk {
+    Disk { x, y, e, s }
+}
+
+fn point(x: i16, y: i16) -> Point {
+    Point { x, y }
+}
+
+fn one(x: i16, y: i16) -> SupportSet {
+    SupportSet::One(point(x, y))
+}
+
+fn two(x: i16, y: i16, v: i16, w: i16) -> SupportSet {
+    SupportSet::Two(point(x, y), point(v, w))
+}
+
+fn three(a: Point, b: Point, c: Point) -> SupportSet {
+    SupportSet::Three(a, b, c)
+}
+
 fn f_disk() -> Disk {
-    Disk {
-        x: 12,
-        y: 5,
-        e: 6,
-        s: 169,
-    }
+    disk(12, 5, 6, 169)
 }
 
 fn f_points() -> SupportSet {
-    SupportSet::Three(
-        Point { x: 0, y: 0 },
-        Point { x: 2, y: 3 },
-        Point { x: 4, y: 0 },
-    )
+    three(point(0, 0), point(2, 3), point(4, 0))
 }
 
-// The disks of the cases, one a row: the letters A to K, numbers at their limits, then disks that break a rule.
-const XS: [i64; 41] = [
-    0,
-    3,
-    2,
-    5,
-    3,
-    12,
-    5,
-    7,
-    1,
-    2,
-    500,
-    0,
-    1000,
-    1_999_999_999,
-    1,
-    12,
-    12,
-    12,
-    12,
-    0,
-    -1,
-    6001,
-    -9_223_372_036_854_775_808,
-    9_223_372_036_854_775_807,
-    12,
-    12,
-    12,
-    12,
-    12,
-    12,
-    12,
-    12,
-    12,
-    12,
-    12,
-    12,
-    12,
-    12,
-    12,
-    12,
-    12,
-];
-
-const YS: [i64; 41] = [
-    0,
-    0,
-    0,
-    5,
-    4,
-    5,
-    0,
-    7,
-    1,
-    0,
-    250,
-    -250,
-    750,
-    -499_999_999,
-    -7,
-    5,
-    5,
-    5,
-    6,
-    0,
-    5,
-    5,
-    5,
-    5,
-    -1501,
-    4501,
-    -9_223_372_036_854_775_808,
-    5,
-    5,
-    5,
-    5,
-    5,
-    5,
-    5,
-    5,
-    5,
-    5,
-    5,
-    5,
-    5,
-    5,
-];
-
-const ES: [u64; 41] = [
-    1,
-    2,
-    1,
-    1,
-    1,
-    6,
-    1,
-    1,
-    1,
-    1,
-    1,
-    1,
-    1,
-    2_000_000,
-    3,
-    0,
-    2_000_001,
-    18_446_744_073_709_551_615,
-    6,
-    5,
-    6,
-    6,
-    6,
-    6,
-    6,
-    6,
-    6,
-    6,
-    6,
-    6,
-    6,
-    6,
-    6,
-    6,
-    6,
-    6,
-    6,
-    6,
-    6,
-    6,
-    6,
-];
-
-const SS: [u64; 41] = [
-    0,
-    9,
-    4,
-    50,
-    25,
-    169,
-    25,
-    0,
-    2,
-    4,
-    500_000,
-    500_000,
-    1,
-    2_000_000_000_000_000_000,
-    11,
-    0,
-    169,
-    169,
-    169,
-    169,
-    169,
-    169,
-    169,
-    169,
-    169,
-    169,
-    169,
-    18_000_001,
-    18_446_744_073_709_551_615,
-    169,
-    169,
-    169,
-    169,
-    169,
-    169,
-    169,
-    169,
-    169,
-    169,
-    169,
-    169,
-];
-// How many points each case has, and the three points, x and y by turns.
-const COUNTS: [u8; 41] = [
-    1,
-    2,
-    2,
-    2,
-    2,
-    3,
-    2,
-    1,
-    2,
-    2,
-    2,
-    1,
-    1,
-    2,
-    3,
-    3,
-    3,
-    3,
-    3,
-    3,
-    3,
-    3,
-    3,
-    3,
-    3,
-    3,
-    3,
-    3,
-    3,
-    2,
-    2,
-    2,
-    3,
-    3,
-    3,
-    1,
-    2,
-    3,
-    3,
-    1,
-    1,
-];
-
-const PS: [i16; 246] = [
-    0,
-    0,
-    0,
-    0,
-    0,
-    0,
-    0,
-    0,
-    3,
-    0,
-    3,
-    0,
-    0,
-    0,
-    4,
-    0,
-    4,
-    0,
-    0,
-    0,
-    10,
-    10,
-    10,
-    10,
-    0,
-    8,
-    6,
-    0,
-    6,
-    0,
-    0,
-    0,
-    2,
-    3,
-    4,
-    0,
-    0,
-    0,
-    10,
-    0,
-    10,
-    0,
-    7,
-    7,
-    7,
-    7,
-    7,
-    7,
-    0,
-    0,
-    2,
-    2,
-    2,
-    2,
-    0,
-    0,
-    4,
-    0,
-    4,
-    0,
-    0,
-    -250,
-    1000,
-    750,
-    1000,
-    750,
-    0,
-    -250,
-    0,
-    -250,
-    0,
-    -250,
-    1000,
-    750,
-    1000,
-    750,
-    1000,
-    750,
-    0,
-    -250,
-    1000,
-    750,
-    1000,
-    750,
-    3,
-    -9,
-    3,
-    -8,
-    4,
-    -250,
-    0,
-    0,
-    2,
-    3,
-    4,
-    0,
-    0,
-    0,
-    2,
-    3,
-    4,
-    0,
-    0,
-    0,
-    2,
-    3,
-    4,
-    0,
-    0,
-    0,
-    2,
-    3,
-    4,
-    0,
-    0,
-    0,
-    2,
-    3,
-    4,
-    0,
-    0,
-    0,
-    2,
-    3,
-    4,
-    0,
-    0,
-    0,
-    2,
-    3,
-    4,
-    0,
-    0,
-    0,
-    2,
-    3,
-    4,
-    0,
-    0,
-    0,
-    2,
-    3,
-    4,
-    0,
-    0,
-    0,
-    2,
-    3,
-    4,
-    0,
-    0,
-    0,
-    2,
-    3,
-    4,
-    0,
-    0,
-    0,
-    2,
-    3,
-    4,
-    0,
-    0,
-    0,
-    2,
-    3,
-    4,
-    0,
-    0,
-    0,
-    2,
-    3,
-    4,
-    0,
-    2,
-    3,
-    2,
-    3,
-    2,
-    3,
-    2,
-    3,
-    0,
-    0,
-    0,
-    0,
-    2,
-    3,
-    2,
-    2,
-    2,
-    2,
-    0,
-    0,
-    0,
-    0,
-    4,
-    0,
-    0,
-    0,
-    4,
-    0,
-    4,
-    0,
-    0,
-    0,
-    4,
-    0,
-    2,
-    3,
-    -1,
-    0,
-    -1,
-    0,
-    -1,
-    0,
-    0,
-    0,
-    1001,
-    0,
-    1001,
-    0,
-    0,
-    -251,
-    2,
-    3,
-    4,
-    0,
-    0,
-    0,
-    2,
-    751,
-    4,
-    0,
-    -32_768,
-    0,
-    -32_768,
-    0,
-    -32_768,
-    0,
-    0,
-    32_767,
-    0,
-    32_767,
-    0,
-    32_767,
-];
-
+// The cases: the letters A to K, numbers at their limits, then disks and points that break a rule. What each is stands in expected.py.
 fn case_disk(k: usize) -> Disk {
-    if k < 41 {
-        let x = XS[k];
-        let y = YS[k];
-        let e = ES[k];
-        let s = SS[k];
-        return Disk { x, y, e, s };
+    match k {
+        0 => disk(0, 0, 1, 0),
+        1 => disk(3, 0, 2, 9),
+        2 => disk(2, 0, 1, 4),
+        3 => disk(5, 5, 1, 50),
+        4 => disk(3, 4, 1, 25),
+        6 => disk(5, 0, 1, 25),
+        7 => disk(7, 7, 1, 0),
+        8 => disk(1, 1, 1, 2),
+        9 => disk(2, 0, 1, 4),
+        10 => disk(500, 250, 1, 500_000),
+        11 => disk(0, -250, 1, 500_000),
+        12 => disk(1000, 750, 1, 1),
+        13 => disk(
+            1_999_999_999,
+            -499_999_999,
+            2_000_000,
+            2_000_000_000_000_000_000,
+        ),
+        14 => disk(1, -7, 3, 11),
+        15 => disk(12, 5, 0, 0),
+        16 => disk(12, 5, 2_000_001, 169),
+        17 => disk(12, 5, 0xffff_ffff_ffff_ffff, 169),
+        18 => disk(12, 6, 6, 169),
+        19 => disk(0, 0, 5, 169),
+        20 => disk(-1, 5, 6, 169),
+        21 => disk(6001, 5, 6, 169),
+        22 => disk(-9_223_372_036_854_775_808, 5, 6, 169),
+        23 => disk(9_223_372_036_854_775_807, 5, 6, 169),
+        24 => disk(12, -1501, 6, 169),
+        25 => disk(12, 4501, 6, 169),
+        26 => disk(12, -9_223_372_036_854_775_808, 6, 169),
+        27 => disk(12, 5, 6, 18_000_001),
+        28 => disk(12, 5, 6, 0xffff_ffff_ffff_ffff),
+        _ => f_disk(),
     }
-    f_disk()
-}
-
-fn case_point(i: usize) -> Point {
-    if i < 123 {
-        let x = PS[2 * i];
-        let y = PS[2 * i + 1];
-        return Point { x, y };
-    }
-    Point { x: 0, y: 0 }
 }
 
 fn case_points(k: usize) -> SupportSet {
-    if k < 41 {
-        if COUNTS[k] == 1 {
-            return SupportSet::One(case_point(3 * k));
-        }
-        if COUNTS[k] == 2 {
-            return SupportSet::Two(case_point(3 * k), case_point(3 * k + 1));
-        }
-        return SupportSet::Three(
-            case_point(3 * k),
-            case_point(3 * k + 1),
-            case_point(3 * k + 2),
-        );
+    match k {
+        0 => one(0, 0),
+        1 => two(0, 0, 3, 0),
+        2 => two(0, 0, 4, 0),
+        3 => two(0, 0, 10, 10),
+        4 => two(0, 8, 6, 0),
+        6 => two(0, 0, 10, 0),
+        7 => one(7, 7),
+        8 => two(0, 0, 2, 2),
+        9 => two(0, 0, 4, 0),
+        10 => two(0, -250, 1000, 750),
+        11 => one(0, -250),
+        12 => one(1000, 750),
+        13 => two(0, -250, 1000, 750),
+        14 => three(point(3, -9), point(3, -8), point(4, -250)),
+        29 => two(2, 3, 2, 3),
+        30 => two(2, 3, 0, 0),
+        31 => two(2, 3, 2, 2),
+        32 => three(point(0, 0), point(0, 0), point(4, 0)),
+        33 => three(point(0, 0), point(4, 0), point(4, 0)),
+        34 => three(point(0, 0), point(4, 0), point(2, 3)),
+        35 => one(-1, 0),
+        36 => two(0, 0, 1001, 0),
+        37 => three(point(0, -251), point(2, 3), point(4, 0)),
+        38 => three(point(0, 0), point(2, 751), point(4, 0)),
+        39 => one(-32_768, 0),
+        40 => one(0, 32_767),
+        _ => f_points(),
     }
-    f_points()
 }
 
 // Written into a buffer of 44 bytes, read back, the radius.
@@ -667,7 +243,25 @@ fn buffers() {
     buffer_of(50, &mut long);
 }
 
-// The places and the new bytes of the damaged records.
+// What is read with one byte changed.
+fn show_changed(bytes: &mut [u8], at: usize, value: u8) {
+    if at < bytes.len() {
+        bytes[at] = value;
+        show_read(bytes);
+    }
+}
+
+// The record of F with one byte changed.
+fn damaged(at: usize, value: u8) {
+    let mut buf = [0u8; 44];
+    record::write_record(f_disk(), f_points(), &mut buf);
+    io::write_all(1, b"byte ");
+    io::print_decimal(1, at as u64);
+    show_changed(&mut buf, at, value);
+    end_line();
+}
+
+// The new bytes of the damaged records, by their places; what each damages stands in expected.py.
 const PLACES: [usize; 22] = [
     0,
     0,
@@ -717,24 +311,6 @@ const BYTES: [u8; 22] = [
     255,
     128,
 ];
-
-// What is read with one byte changed.
-fn show_changed(bytes: &mut [u8], at: usize, value: u8) {
-    if at < bytes.len() {
-        bytes[at] = value;
-        show_read(bytes);
-    }
-}
-
-// The record of F with one byte changed.
-fn damaged(at: usize, value: u8) {
-    let mut buf = [0u8; 44];
-    record::write_record(f_disk(), f_points(), &mut buf);
-    io::write_all(1, b"byte ");
-    io::print_decimal(1, at as u64);
-    show_changed(&mut buf, at, value);
-    end_line();
-}
 
 fn damages() {
     let mut k: usize = 0;
