@@ -28,11 +28,13 @@ pub enum Kind {
     Outline,
     /// The corners of the em box and points near its edges.
     Edges,
-    /// From the inside out: many points are outside when they are tested.
+    /// Round and round, from the inside out: many points are outside when they are tested.
     Growing,
+    /// From the inside out, in any direction: the same.
+    ByDistance,
 }
 
-pub const KINDS: [Kind; 9] = [
+pub const KINDS: [Kind; 10] = [
     Kind::Uniform,
     Kind::SmallBox,
     Kind::Repeats,
@@ -42,6 +44,7 @@ pub const KINDS: [Kind; 9] = [
     Kind::Outline,
     Kind::Edges,
     Kind::Growing,
+    Kind::ByDistance,
 ];
 
 /// A list of n points of the kind.
@@ -56,6 +59,7 @@ pub fn draw(kind: Kind, n: usize, random: &mut Random) -> Vec<Point> {
         Kind::Outline => outline(n, random),
         Kind::Edges => edges(n, random),
         Kind::Growing => worst::growing(n, random),
+        Kind::ByDistance => worst::by_distance(n, random),
     }
 }
 
@@ -115,8 +119,7 @@ fn point_in_box((x, y): (i64, i64)) -> Option<Point> {
 }
 
 /// Squared radii with many points on their circles: products of primes that are sums of two squares.
-const RICH: [i64; 16] =
-    [1, 5, 25, 65, 85, 125, 325, 425, 725, 1_105, 5_525, 8_125, 27_625, 71_825, 138_125, 160_225];
+const RICH: [i64; 16] = [1, 5, 25, 65, 85, 125, 325, 425, 725, 1_105, 5_525, 8_125, 27_625, 71_825, 138_125, 160_225];
 
 fn circle(n: usize, random: &mut Random) -> Vec<Point> {
     let all = rich_circle(random);

@@ -12,6 +12,9 @@ pub struct Run {
 
 /// The procedure started on the list as given, with no point fixed. The list is left as the procedure leaves it.
 pub fn run(list: &mut [Point]) -> Run {
+    if list.len() <= 256 {
+        return b_mtfdisk(list, &[]);
+    }
     on_a_deep_stack(|| b_mtfdisk(list, &[]))
 }
 

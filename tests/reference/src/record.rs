@@ -25,9 +25,7 @@ fn is_valid_disk(disk: &Disk) -> bool {
 }
 
 fn is_valid_support(support: &[Point]) -> bool {
-    (1..=3).contains(&support.len())
-        && support.is_sorted_by(|a, b| a < b)
-        && support.iter().all(|p| p.is_in_em_box())
+    (1..=3).contains(&support.len()) && support.is_sorted_by(|a, b| a < b) && support.iter().all(|p| p.is_in_em_box())
 }
 
 /// Fills the first 44 bytes of the buffer: refusals 8, 7, and then the buffer is unchanged.
