@@ -115,7 +115,8 @@ pub fn sheet(random: &mut Random) -> SheetCase {
         }
         _ => (),
     }
-    SheetCase { k: random.pick(&[0, 0, 1, 2, 3, 4, 5, 6, 255, 65_535]), bytes }
+    let k = if random.chance(75) { random.below(count.max(1)) as u16 } else { random.pick(&[0, 1, 5, 6, 255, 65_535]) };
+    SheetCase { k, bytes }
 }
 
 /// Parts behind the directory, each at or after the end of the one before.
