@@ -113,11 +113,18 @@ std::vector<std::vector<Point>> read_lists() {
     return lists;
 }
 
+uint64_t mixed(uint64_t sum, uint64_t number) {
+    return (65537 * sum + number) % 1000003;
+}
+
+uint64_t mixed_signed(uint64_t sum, int v) {
+    return v < 0 ? mixed(mixed(sum, -v), 65535) : mixed(sum, v);
+}
+
 uint64_t checksum(const std::vector<Point>& list) {
     uint64_t sum = 0;
     for (Point p : list) {
-        sum = (65537 * sum + uint64_t(p.x + 32768)) % 1000003;
-        sum = (65537 * sum + uint64_t(p.y + 32768)) % 1000003;
+        sum = mixed_signed(mixed_signed(sum, p.x), p.y);
     }
     return sum;
 }

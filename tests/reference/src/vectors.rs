@@ -1,7 +1,6 @@
-//! The stored cases: what a test program reads and what it must print.
+//! The cases of the test program `crates/vectors`: what it reads and what it must print.
 //!
-//! The input of each set is a row of cases. A case is its length in five decimal digits, a line feed, and that many bytes. The row
-//! ends with the input. `tests/README.md` has what the bytes of a case are and what is printed for it.
+//! `tests/README.md` has the layout.
 
 use crate::damage::{self, SheetCase, WriterCase};
 use crate::description::{self, describe, LIST_LENGTH};
@@ -13,87 +12,98 @@ use crate::listing;
 use crate::lists::{self, Kind, KINDS};
 use crate::random::Random;
 use crate::record;
-use crate::refusal::Refusal;
 use crate::sheet;
 use crate::worst;
-use std::path::{Path, PathBuf};
 
-/// A stored set: its input and output files in the repository, and its cases.
-pub struct Stored {
-    pub input: &'static str,
-    pub output: &'static str,
-    pub cases: fn() -> Vectors,
+/// A case: the call that it is for, the bytes given and the lines printed.
+pub struct Vector {
+    pub call: Call,
+    pub bytes: Vec<u8>,
+    pub printed: String,
 }
 
-#[rustfmt::skip]
-pub const STORED: [Stored; 5] = [
-    Stored { input: "crates/engine_vectors/stdin", output: "crates/engine_vectors/stdout", cases: engine },
-    Stored { input: "tests/vectors/loader.stdin", output: "tests/vectors/loader.stdout", cases: loader },
-    Stored { input: "tests/vectors/sheet.stdin", output: "tests/vectors/sheet.stdout", cases: sheets },
-    Stored { input: "tests/vectors/record.stdin", output: "tests/vectors/record.stdout", cases: records },
-    Stored { input: "tests/vectors/writer.stdin", output: "tests/vectors/writer.stdout", cases: writers },
-];
-
-/// The repository that this crate lies in.
-pub fn repository() -> PathBuf {
-    Path::new(env!("CARGO_MANIFEST_DIR")).join("../..")
+/// The letter at the head of a case.
+#[derive(Clone, Copy, PartialEq, Eq, Debug)]
+pub enum Call {
+    /// Loader, engine and cutting radius, as the listing program calls them.
+    Engine = b'E' as isize,
+    /// The loader alone.
+    Loader = b'L' as isize,
+    /// The sheet opener.
+    Sheet = b'S' as isize,
+    /// The record reader, then cutting radius and preview.
+    Reader = b'R' as isize,
+    /// Cutting radius, preview and record writer.
+    Writer = b'W' as isize,
 }
 
-/// The input and output of a test program.
-#[derive(Default)]
-pub struct Vectors {
-    pub input: Vec<u8>,
-    pub output: String,
-    pub cases: usize,
-}
-
-impl Vectors {
-    fn add(&mut self, bytes: &[u8], printed: &str) {
-        assert!(bytes.len() <= 99_999, "a length has five digits");
-        self.input.extend_from_slice(format!("{:05}\n", bytes.len()).as_bytes());
-        self.input.extend_from_slice(bytes);
-        self.output += printed;
-        self.cases += 1;
+/// What the program reads: for each case the letter, the length in five decimal digits, a line feed and the bytes.
+pub fn input(vectors: &[Vector]) -> Vec<u8> {
+    let mut input = Vec::new();
+    for vector in vectors {
+        assert!(vector.bytes.len() <= 99_999, "a length has five digits");
+        let head = format!("{}{:05}\n", vector.call as u8 as char, vector.bytes.len());
+        input.extend_from_slice(head.as_bytes());
+        input.extend_from_slice(&vector.bytes);
     }
+    input
 }
 
-/// One number for a row of numbers, that depends on their order: each step takes the sum times 65,537 and the number, modulo the
-/// prime 1,000,003.
+/// What the program prints.
+pub fn output(vectors: &[Vector]) -> String {
+    vectors.iter().map(|vector| vector.printed.as_str()).collect()
+}
+
+/// One number for a row of numbers below 65,536, that depends on their order: each step takes the sum times 65,537 and the number,
+/// modulo the prime 1,000,003.
 pub fn checksum(numbers: impl Iterator<Item = u64>) -> u64 {
     numbers.fold(0, |sum, number| (65_537 * sum + number) % 1_000_003)
 }
 
-/// The checksum of points, x and y by turns, each with 32,768 added.
-pub fn list_checksum(points: &[Point]) -> u64 {
-    checksum(flat(points).iter().map(|&number| (i64::from(number) + 32_768) as u64))
+/// The checksum of a list's numbers: each goes in as its magnitude, and 65,535 behind it where it is negative.
+pub fn list_checksum(list: &[i16]) -> u64 {
+    let signed = |number: &i16| {
+        let sign = (*number < 0).then_some(65_535);
+        std::iter::once(u64::from(number.unsigned_abs())).chain(sign)
+    };
+    checksum(list.iter().flat_map(signed))
 }
 
-// ---- the engine, from descriptions
+// ---- the sets
 
-/// Lists of all kinds, damaged descriptions and the edges of document 01.
-pub fn engine() -> Vectors {
-    let mut vectors = Vectors::default();
-    for text in letter_texts().into_iter().chain(edge_texts()) {
-        vectors.add(&text, &engine_output(&text));
-    }
-    for points in drawn_lists() {
-        let text = describe(&points);
-        vectors.add(&text, &engine_output(&text));
-    }
-    let mut random = Random::new(2);
-    for _ in 0..400 {
-        let text = damage::description(&mut random);
-        vectors.add(&text, &engine_output(&text));
+/// The cases that the repository keeps.
+pub fn stored() -> Vec<Vector> {
+    let texts = letter_texts().into_iter().chain(edge_texts());
+    let lists = stored_lists().into_iter().map(|points| describe(&points));
+    let mut vectors: Vec<Vector> = texts.chain(lists).map(engine).collect();
+    vectors.extend(edge_sheets());
+    vectors.extend(damaged(&mut Random::new(1), 600));
+    vectors
+}
+
+/// `count` cases for each call, by a seed: for runs beyond the stored cases.
+pub fn drawn(seed: u64, count: usize) -> Vec<Vector> {
+    let mut random = Random::new(seed);
+    let mut vectors = damaged(&mut random, count);
+    for _ in 0..count {
+        let longest = random.pick(&[4, 12, 40, 300]);
+        let n = 1 + random.below(longest);
+        vectors.push(engine(describe(&lists::draw(random.pick(&KINDS), n, &mut random))));
     }
     vectors
 }
 
-/// The listing's lines, and the checksum of the order left.
-pub fn engine_output(text: &[u8]) -> String {
-    match listing::solved(text) {
-        Ok((answer, left)) => format!("{}left {}\n", listing::lines(&answer), list_checksum(&left)),
-        Err(refusal) => listing::refused(refusal),
+/// `count` cases for each call from descriptions, sheets and records, many of them damaged.
+fn damaged(random: &mut Random, count: usize) -> Vec<Vector> {
+    let mut vectors = Vec::new();
+    for _ in 0..count {
+        vectors.push(engine(damage::description(random)));
+        vectors.push(loader(damage::description(random)));
+        vectors.push(open_sheet(&damage::sheet(random)));
+        vectors.push(reader(damage::record(random)));
+        vectors.push(writer(&damage::writer(random)));
     }
+    vectors
 }
 
 fn letter_texts() -> Vec<Vec<u8>> {
@@ -128,96 +138,71 @@ fn edge_texts() -> Vec<Vec<u8>> {
     texts.chain([most.clone()]).chain(long).chain(padded).collect()
 }
 
-/// Short lists of every kind, some lists of a few hundred points, a long list of most kinds, and lists that cost many tests.
-fn drawn_lists() -> Vec<Vec<Point>> {
-    let mut drawn: Vec<Vec<Point>> = Vec::new();
-    drawn.extend(lists::mixed(1_800, 14).map(|case| case.points));
-    drawn.extend(lists::mixed(450, 80).map(|case| case.points));
-    drawn.extend(lists::mixed(36, 400).map(|case| case.points));
+/// Short lists of every kind, some lists of a few hundred points, three of 4,096, and lists that cost many tests.
+fn stored_lists() -> Vec<Vec<Point>> {
+    let mut stored: Vec<Vec<Point>> = Vec::new();
+    stored.extend(lists::mixed(1_600, 14).map(|case| case.points));
+    stored.extend(lists::mixed(300, 80).map(|case| case.points));
+    stored.extend(lists::mixed(20, 400).map(|case| case.points));
     for kind in [Kind::Uniform, Kind::Outline, Kind::ByDistance] {
-        drawn.push(lists::draw(kind, 4_096, &mut Random::new(3)));
+        stored.push(lists::draw(kind, 4_096, &mut Random::new(3)));
     }
-    drawn.extend(worst::short_lists());
-    drawn
+    stored.extend(worst::short_lists());
+    stored
 }
 
-// ---- the loader alone
-
-/// Descriptions: the loader's list is filled with 12,321 before the call.
-pub fn loader() -> Vectors {
-    let mut vectors = Vectors::default();
-    let mut random = Random::new(4);
-    for _ in 0..600 {
-        let text = damage::description(&mut random);
-        vectors.add(&text, &loader_output(&text));
-    }
-    for kind in KINDS {
-        let points = lists::draw(kind, 40, &mut random);
-        let text = damage::styled(&points, &mut random);
-        vectors.add(&text, &loader_output(&text));
-    }
-    vectors
+/// Sheets of zeros, from none to one byte too many.
+fn edge_sheets() -> impl Iterator<Item = Vector> {
+    [0, 1, 2, 3, 65_536].into_iter().map(|length| open_sheet(&SheetCase { k: 0, bytes: vec![0; length] }))
 }
 
-fn loader_output(text: &[u8]) -> String {
-    let mut list = [12_321; LIST_LENGTH];
-    match description::load(text, &mut list) {
-        Ok(count) => {
-            let numbers = list.iter().map(|&number| (i64::from(number) + 32_768) as u64);
-            format!("points {count} {}\n", checksum(numbers))
-        }
-        Err(refusal) => listing::refused(refusal),
-    }
-}
+// ---- a case for each call
 
-// ---- sheets
-
-pub fn sheets() -> Vectors {
-    let mut vectors = Vectors::default();
-    let mut random = Random::new(5);
-    for _ in 0..1_000 {
-        add_sheet(&mut vectors, &damage::sheet(&mut random));
-    }
-    for length in [0, 1, 2, 65_535, 65_536] {
-        add_sheet(&mut vectors, &SheetCase { k: 0, bytes: vec![0; length] });
-    }
-    vectors
-}
-
-fn add_sheet(vectors: &mut Vectors, case: &SheetCase) {
-    let bytes = [&case.k.to_be_bytes()[..], &case.bytes].concat();
-    let printed = match sheet::glyph(&case.bytes, case.k.into()) {
-        Ok(part) => format!("part {} {}\n", part.start, part.len()),
+/// Prints the listing, and the checksum of the list as the engine leaves it.
+fn engine(text: Vec<u8>) -> Vector {
+    let printed = match listing::solved(&text) {
+        Ok((answer, left)) => format!("{}left {}\n", listing::lines(&answer), list_checksum(&flat(&left))),
         Err(refusal) => listing::refused(refusal),
     };
-    vectors.add(&bytes, &printed);
+    Vector { call: Call::Engine, bytes: text, printed }
 }
 
-// ---- records
-
-pub fn records() -> Vectors {
-    let mut vectors = Vectors::default();
-    let mut random = Random::new(6);
-    for _ in 0..1_000 {
-        let bytes = damage::record(&mut random);
-        vectors.add(&bytes, &record_output(&bytes));
-    }
-    vectors
+/// The lent list holds 12,321 everywhere before the call; its checksum after it is printed.
+fn loader(text: Vec<u8>) -> Vector {
+    let mut list = [12_321; LIST_LENGTH];
+    let printed = match description::load(&text, &mut list) {
+        Ok(count) => format!("points {count}\n"),
+        Err(refusal) => listing::refused(refusal),
+    };
+    Vector { call: Call::Loader, bytes: text, printed: printed + &format!("list {}\n", list_checksum(&list)) }
 }
 
-fn record_output(bytes: &[u8]) -> String {
-    match record::read(bytes) {
+/// k in two bytes, high byte first, then the sheet.
+fn open_sheet(case: &SheetCase) -> Vector {
+    let printed = match sheet::glyph(&case.bytes, case.k.into()) {
+        Ok(part) => {
+            let bytes = checksum(case.bytes[part.clone()].iter().map(|&byte| byte.into()));
+            format!("part {} {} {bytes}\n", part.start, part.len())
+        }
+        Err(refusal) => listing::refused(refusal),
+    };
+    Vector { call: Call::Sheet, bytes: [&case.k.to_be_bytes()[..], &case.bytes].concat(), printed }
+}
+
+fn reader(bytes: Vec<u8>) -> Vector {
+    let printed = match record::read(&bytes) {
         Ok((disk, support)) => {
             let Disk { x, y, e, s } = disk;
             let read = format!("disk {x} {y} {e} {s}\nrim{}\n", listing::coordinates(&support));
-            read + &figures_output(&disk, &support)
+            read + &figures_printed(&disk, &support)
         }
         Err(refusal) => listing::refused(refusal),
-    }
+    };
+    Vector { call: Call::Reader, bytes, printed }
 }
 
-/// The cutting radius and the bits of the preview.
-fn figures_output(disk: &Disk, support: &[Point]) -> String {
+/// The cutting radius, and the bits of the preview.
+fn figures_printed(disk: &Disk, support: &[Point]) -> String {
     let whole = match figures::whole_radius(disk, support) {
         Ok(radius) => format!("whole {radius}\n"),
         Err(refusal) => listing::refused(refusal),
@@ -232,67 +217,45 @@ fn figures_output(disk: &Disk, support: &[Point]) -> String {
     whole + &preview
 }
 
-/// What writer, cutting radius and preview make of disks and support sets, valid or not.
-pub fn writers() -> Vectors {
-    let mut vectors = Vectors::default();
-    let mut random = Random::new(7);
-    for _ in 0..1_000 {
-        let case = damage::writer(&mut random);
-        vectors.add(&writer_bytes(&case), &writer_output(&case));
-    }
-    vectors
-}
-
-/// The buffer's length and the number of points, a byte each; then a record's bytes, its points with repeats of the last.
-fn writer_bytes(case: &WriterCase) -> Vec<u8> {
+/// The buffer's length and the number of points, a byte each, then a record's bytes, its points with repeats of the last. The buffer
+/// holds 238 everywhere before the call; its checksum after it is printed.
+fn writer(case: &WriterCase) -> Vector {
     let count = case.support.len() as u8;
-    [vec![case.room, count], record::bytes_of(&case.disk, &case.support)].concat()
-}
-
-/// The buffer holds 238 in each byte before the call.
-fn writer_output(case: &WriterCase) -> String {
+    let bytes = [vec![case.room, count], record::bytes_of(&case.disk, &case.support)].concat();
     let mut buffer = vec![238; case.room.into()];
     let written = match record::write(&case.disk, &case.support, &mut buffer) {
         Ok(()) => "written\n".to_string(),
         Err(refusal) => listing::refused(refusal),
     };
-    let bytes = checksum(buffer.iter().map(|&byte| byte.into()));
-    figures_output(&case.disk, &case.support) + &written + &format!("bytes {bytes}\n")
-}
-
-/// The number of the refusal that is printed first, for counting.
-pub fn refusals_in(output: &str, refusal: Refusal) -> usize {
-    let line = listing::refused(refusal);
-    output.lines().filter(|&printed| printed == line.trim_end()).count()
+    let left = checksum(buffer.iter().map(|&byte| byte.into()));
+    let printed = figures_printed(&case.disk, &case.support) + &written + &format!("buffer {left}\n");
+    Vector { call: Call::Writer, bytes, printed }
 }
 
 #[cfg(test)]
 mod tests {
     use super::*;
+    use crate::refusal::Refusal;
+    use std::path::Path;
 
     #[test]
     fn the_files_are_those_that_the_command_writes() {
-        for Stored { input, output, cases } in STORED {
-            let vectors = cases();
-            let read = |file: &str| std::fs::read(repository().join(file)).unwrap();
-            assert!(read(input) == vectors.input, "{input}");
-            assert!(read(output) == vectors.output.as_bytes(), "{output}");
-        }
+        let folder = Path::new(env!("CARGO_MANIFEST_DIR")).join("../../crates/vectors");
+        let read = |file: &str| std::fs::read(folder.join(file)).unwrap();
+        let vectors = stored();
+        assert!(read("stdin") == input(&vectors), "stdin");
+        assert!(read("stdout") == output(&vectors).as_bytes(), "stdout");
     }
 
     #[test]
-    fn there_are_enough_cases_in_little_space() {
-        let vectors = engine();
-        assert!(vectors.cases >= 2_000);
-        assert!(vectors.input.len() + vectors.output.len() < 1_000_000, "{}", vectors.input.len());
-    }
-
-    #[test]
-    fn every_refusal_is_among_the_cases() {
-        let outputs = [engine(), loader(), sheets(), records(), writers()].map(|vectors| vectors.output).concat();
+    fn every_answer_and_every_refusal_is_among_the_cases() {
+        let vectors = stored();
+        let lists = vectors.iter().filter(|v| v.call == Call::Engine && v.printed.starts_with("disk")).count();
+        assert!(lists >= 2_000);
         use Refusal::*;
         for refusal in [TooLong, BadLine, OutsideBox, TooMany, NoPoint, BadSheet, BadRecord, NoRoom, NoGlyph] {
-            assert!(refusals_in(&outputs, refusal) > 0, "{refusal:?}");
+            let line = listing::refused(refusal);
+            assert!(vectors.iter().any(|v| v.printed.contains(&line)), "{refusal:?}");
         }
     }
 
@@ -300,5 +263,6 @@ mod tests {
     fn the_checksum_depends_on_the_order() {
         assert_eq!(checksum([1, 2].into_iter()), 65_539);
         assert_ne!(checksum([1, 2].into_iter()), checksum([2, 1].into_iter()));
+        assert_eq!(list_checksum(&[1, -2]), checksum([1, 2, 65_535].into_iter()));
     }
 }

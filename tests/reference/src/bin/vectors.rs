@@ -1,21 +1,17 @@
-//! Writes the stored cases (`vectors::STORED`): `cargo run --offline --release --bin vectors`, in `tests/reference`.
-//!
-//! The files are the same on every run.
+//! Writes the stored cases, `stdin` and `stdout` of `crates/vectors`: `cargo run --offline --release --bin vectors`, in
+//! `tests/reference`. The files are the same on every run.
 
-use reference::vectors::{repository, Stored, STORED};
+use reference::vectors::{input, output, stored};
 use std::io;
-
-fn write(stored: &Stored) -> io::Result<()> {
-    let vectors = (stored.cases)();
-    for (file, bytes) in [(stored.input, vectors.input.as_slice()), (stored.output, vectors.output.as_bytes())] {
-        let path = repository().join(file);
-        std::fs::create_dir_all(path.parent().expect("a file lies in a folder"))?;
-        std::fs::write(path, bytes)?;
-        println!("{file}: {} cases, {} bytes", vectors.cases, bytes.len());
-    }
-    Ok(())
-}
+use std::path::Path;
 
 fn main() -> io::Result<()> {
-    STORED.iter().try_for_each(write)
+    let folder = Path::new(env!("CARGO_MANIFEST_DIR")).join("../../crates/vectors");
+    let vectors = stored();
+    let (input, output) = (input(&vectors), output(&vectors));
+    std::fs::create_dir_all(&folder)?;
+    std::fs::write(folder.join("stdin"), &input)?;
+    std::fs::write(folder.join("stdout"), &output)?;
+    println!("{} cases, {} bytes in, {} bytes out", vectors.len(), input.len(), output.len());
+    Ok(())
 }
