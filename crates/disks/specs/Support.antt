@@ -1,25 +1,17 @@
 -- The first support set of a list (01, "Disk and rim": the first rim set).
 --
---   before p q        == p comes before q in rising order, x first and then y
 --   sorted P          == the different points of P in rising order
 --   choose k Q        == the sets of k points of Q, each in Q's order, in lexical order
 --   supports P T      == T's own smallest disk is that of P (01: T is a rim set of P)
 --   firstSupport P    == of the sets of one, then two, then three different points of P, each in rising order, the first that supports P
-use mathlib.Core.Bool.{Bool, true, false, _&&_, _||_}
+use mathlib.Core.Bool.{Bool, true, false, _&&_}
 use mathlib.Core.List.{List, [], _∷_, _++_}
 use Prim.Native.Nat.{ℕ, zero, suc}
 use lib.Dec.{eqb}
-use lib.IntN.{ℤ}
-use lib.Signed.{ltZ, leZ}
 use Rattle.geometry.specs.declared.Point.{Point}
 use Rattle.geometry.specs.declared.Disk.{Disk}
+use Rattle.geometry.specs.Order.{eqZ, before}
 use Rattle.disks.specs.Procedure.{diskOf}
-
-abbrev pub eqZ : ℤ → ℤ → Bool
-eqZ a b = leZ a b && leZ b a
-
-unfoldable pub before : Point → Point → Bool
-before p q = ltZ (p .x) (q .x) || (eqZ (p .x) (q .x) && ltZ (p .y) (q .y))
 
 -- p in its place in a rising list; one that is there already is not put in again
 unfoldable pub insert : Point → List Point → List Point

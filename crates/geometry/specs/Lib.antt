@@ -1,2 +1,3 @@
 pub mod Plane
 pub mod Points
+pub mod Order
