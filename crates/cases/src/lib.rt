@@ -58,6 +58,49 @@ pub fn read_case(buffer: &mut [u8]) -> Case {
     case
 }
 
+// The number of 8 bytes at the place; 0 where they are not all there.
+pub fn word_at(bytes: &[u8], at: usize) -> u64 {
+    if bytes.len() < 8 {
+        return 0;
+    }
+    if bytes.len() - 8 < at {
+        return 0;
+    }
+    big_endian::get_at(bytes, at, 8)
+}
+
+// The same, signed.
+pub fn signed_word_at(bytes: &[u8], at: usize) -> i64 {
+    if bytes.len() < 8 {
+        return 0;
+    }
+    if bytes.len() - 8 < at {
+        return 0;
+    }
+    big_endian::get_signed_at(bytes, at, 8)
+}
+
+// The signed number of 2 bytes at the place; 0 where they are not both there.
+pub fn number_at(bytes: &[u8], at: usize) -> i16 {
+    if bytes.len() < 2 {
+        return 0;
+    }
+    if bytes.len() - 2 < at {
+        return 0;
+    }
+    big_endian::of_bits(big_endian::get_at(bytes, at, 2), 2) as i16
+}
+
+// Fills the list with signed numbers of 2 bytes each.
+pub fn fill_list(bytes: &[u8], list: &mut [i16]) {
+    let mut i: usize = 0;
+    while i < list.len() {
+        let v = number_at(bytes, 2 * i);
+        list[i] = v;
+        i += 1;
+    }
+}
+
 // A checksum with one more number.
 fn mixed(sum: u64, number: u64) -> u64 {
     (65537 * (sum % 1000003) + number % 65536) % 1000003

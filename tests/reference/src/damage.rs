@@ -1,5 +1,6 @@
 //! Drawn descriptions, sheets and records, many of them damaged, each by its seed.
 
+use crate::engine;
 use crate::geometry::{gcd, Disk, Point};
 use crate::lists::{self, Kind};
 use crate::random::Random;
@@ -81,6 +82,22 @@ fn damage_text(text: &mut Vec<u8>, random: &mut Random) {
         3 => text.truncate(at),
         _ => drop(text.splice(at..at, random.pick(&LINES).bytes())),
     }
+}
+
+// ---- point lists
+
+/// A short list of numbers, x and y by turns: in half of the cases of odd length, empty or with a point outside the em box.
+pub fn point_list(random: &mut Random) -> Vec<i16> {
+    let n = 1 + random.below(9);
+    let mut list = engine::flat(&lists::draw(random.pick(&lists::KINDS), n, random));
+    let at = random.below(list.len());
+    match random.below(8) {
+        0 => list.truncate(at),
+        1 => list.push(random.word() as i16),
+        2 | 3 => list[at] = random.pick(&[-1, 1001, -251, 751, i16::MIN, i16::MAX]),
+        _ => (),
+    }
+    list
 }
 
 // ---- sheets
@@ -273,6 +290,12 @@ mod tests {
     fn descriptions_are_refused_for_each_reason() {
         let times = seen(5_000, |random| points_of(&description(random)).err());
         assert!([0, 2, 3, 5].iter().all(|&number| times[number] > 150), "{times:?}");
+    }
+
+    #[test]
+    fn point_lists_are_refused_for_each_reason() {
+        let times = seen(5_000, |random| engine::solve(&mut point_list(random)).err());
+        assert!([0, 3, 5, 9].iter().all(|&number| times[number] > 50), "{times:?}");
     }
 
     #[test]

@@ -4,7 +4,7 @@
 
 use crate::damage::{self, SheetCase, WriterCase};
 use crate::description::{self, describe, LIST_LENGTH};
-use crate::engine::flat;
+use crate::engine::{self, flat};
 use crate::figures;
 use crate::geometry::{Disk, Point};
 use crate::letters;
@@ -26,6 +26,8 @@ pub struct Vector {
 #[derive(Clone, Copy, PartialEq, Eq, Debug)]
 pub enum Call {
     /// Loader, engine and cutting radius, as the listing program calls them.
+    Listing = b'D' as isize,
+    /// The engine alone.
     Engine = b'E' as isize,
     /// The loader alone.
     Loader = b'L' as isize,
@@ -75,9 +77,10 @@ pub fn list_checksum(list: &[i16]) -> u64 {
 pub fn stored() -> Vec<Vector> {
     let texts = letter_texts().into_iter().chain(edge_texts());
     let lists = stored_lists().into_iter().map(|points| describe(&points));
-    let mut vectors: Vec<Vector> = texts.chain(lists).map(engine).collect();
+    let mut vectors: Vec<Vector> = texts.chain(lists).map(from_description).collect();
+    vectors.extend([vec![1; 8_194], vec![1; 8_193], vec![]].into_iter().map(engine));
     vectors.extend(edge_sheets());
-    vectors.extend(damaged(&mut Random::new(1), 600));
+    vectors.extend(damaged(&mut Random::new(1), 500));
     vectors
 }
 
@@ -88,7 +91,7 @@ pub fn drawn(seed: u64, count: usize) -> Vec<Vector> {
     for _ in 0..count {
         let longest = random.pick(&[4, 12, 40, 300]);
         let n = 1 + random.below(longest);
-        vectors.push(engine(describe(&lists::draw(random.pick(&KINDS), n, &mut random))));
+        vectors.push(from_description(describe(&lists::draw(random.pick(&KINDS), n, &mut random))));
     }
     vectors
 }
@@ -97,7 +100,8 @@ pub fn drawn(seed: u64, count: usize) -> Vec<Vector> {
 fn damaged(random: &mut Random, count: usize) -> Vec<Vector> {
     let mut vectors = Vec::new();
     for _ in 0..count {
-        vectors.push(engine(damage::description(random)));
+        vectors.push(from_description(damage::description(random)));
+        vectors.push(engine(damage::point_list(random)));
         vectors.push(loader(damage::description(random)));
         vectors.push(open_sheet(&damage::sheet(random)));
         vectors.push(reader(damage::record(random)));
@@ -158,13 +162,23 @@ fn edge_sheets() -> impl Iterator<Item = Vector> {
 
 // ---- a case for each call
 
-/// Prints the listing, and the checksum of the list as the engine leaves it.
-fn engine(text: Vec<u8>) -> Vector {
+/// A description: the listing, and the checksum of the list as the engine leaves it.
+fn from_description(text: Vec<u8>) -> Vector {
     let printed = match listing::solved(&text) {
         Ok((answer, left)) => format!("{}left {}\n", listing::lines(&answer), list_checksum(&flat(&left))),
         Err(refusal) => listing::refused(refusal),
     };
-    Vector { call: Call::Engine, bytes: text, printed }
+    Vector { call: Call::Listing, bytes: text, printed }
+}
+
+/// A point list, two bytes a number, high byte first: the same, with the checksum also where the list is refused.
+fn engine(mut list: Vec<i16>) -> Vector {
+    let bytes = list.iter().flat_map(|number| number.to_be_bytes()).collect();
+    let printed = match engine::solve(&mut list) {
+        Ok(answer) => listing::lines(&answer),
+        Err(refusal) => listing::refused(refusal),
+    };
+    Vector { call: Call::Engine, bytes, printed: printed + &format!("left {}\n", list_checksum(&list)) }
 }
 
 /// The lent list holds 12,321 everywhere before the call; its checksum after it is printed.
@@ -250,10 +264,10 @@ mod tests {
     #[test]
     fn every_answer_and_every_refusal_is_among_the_cases() {
         let vectors = stored();
-        let lists = vectors.iter().filter(|v| v.call == Call::Engine && v.printed.starts_with("disk")).count();
+        let lists = vectors.iter().filter(|v| v.call == Call::Listing && v.printed.starts_with("disk")).count();
         assert!(lists >= 2_000);
         use Refusal::*;
-        for refusal in [TooLong, BadLine, OutsideBox, TooMany, NoPoint, BadSheet, BadRecord, NoRoom, NoGlyph] {
+        for refusal in [TooLong, BadLine, OutsideBox, TooMany, NoPoint, BadSheet, BadRecord, NoRoom, OddLength, NoGlyph] {
             let line = listing::refused(refusal);
             assert!(vectors.iter().any(|v| v.printed.contains(&line)), "{refusal:?}");
         }
