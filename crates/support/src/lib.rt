@@ -196,12 +196,39 @@ fn search(list: &[i16], n: usize, disk: Disk) -> SupportSet
     found
 }
 
+// The search, with room lent for the boundary points.
+fn search_in(list: &[i16], disk: Disk, room: &mut [i16]) -> SupportSet
+    requires { ⌜ Asked (now list) disk × (length (now list) ≤ length (now room)) ⌝ }
+    ensures { λ r. ⌜ members r ≡ firstSupport (points (now (list .entry))) ⌝ }
+{
+    let n = collect(list, disk, room);
+    search(room, n, disk)
+}
+
+// Most lists are short, and clearing room for the longest would take as long as the search.
+fn search_short(list: &[i16], disk: Disk) -> SupportSet
+    requires { ⌜ Asked (now list) disk × (length (now list) ≤ 256) ⌝ }
+    ensures { λ r. ⌜ members r ≡ firstSupport (points (now (list .entry))) ⌝ }
+{
+    let mut room = [0i16; 256];
+    search_in(list, disk, &mut room)
+}
+
+fn search_long(list: &[i16], disk: Disk) -> SupportSet
+    requires { ⌜ Asked (now list) disk ⌝ }
+    ensures { λ r. ⌜ members r ≡ firstSupport (points (now (list .entry))) ⌝ }
+{
+    let mut room = [0i16; 8192];
+    search_in(list, disk, &mut room)
+}
+
 // The first support set of the list (01: the first rim set), whose smallest disk is given.
 pub fn first_support(list: &[i16], disk: Disk) -> SupportSet
     requires { ⌜ Asked (now list) disk ⌝ }
     ensures { λ r. ⌜ members r ≡ firstSupport (points (now (list .entry))) ⌝ }
 {
-    let mut boundary = [0i16; 8192];
-    let n = collect(list, disk, &mut boundary);
-    search(&boundary, n, disk)
+    if list.len() <= 256 {
+        return search_short(list, disk);
+    }
+    search_long(list, disk)
 }
