@@ -76,7 +76,7 @@ pub fn list_checksum(list: &[i16]) -> u64 {
 /// The cases that the repository keeps.
 pub fn stored() -> Vec<Vector> {
     let texts = letter_texts().into_iter().chain(edge_texts());
-    let lists = stored_lists().into_iter().map(|points| describe(&points));
+    let lists = circles_in_every_order().into_iter().chain(stored_lists()).map(|points| describe(&points));
     let mut vectors: Vec<Vector> = texts.chain(lists).map(from_description).collect();
     vectors.extend([vec![1; 8_194], vec![1; 8_193], vec![]].into_iter().map(engine));
     vectors.extend(edge_sheets());
@@ -140,6 +140,26 @@ fn edge_texts() -> Vec<Vec<u8>> {
     let padded = [65_535, 65_536].map(|length| [&b"1 2\n3 4"[..], &vec![b' '; length - 7]].concat());
     let texts = short.iter().map(|text| text.as_bytes().to_vec());
     texts.chain([most.clone()]).chain(long).chain(padded).collect()
+}
+
+/// Points on a common circle in every order: letter D, and five of the lattice points of a circle of radius 5.
+fn circles_in_every_order() -> Vec<Vec<Point>> {
+    let square = [(0, 0), (10, 0), (0, 10), (10, 10)];
+    let circle = [(10, 5), (8, 9), (5, 10), (1, 8), (2, 1)];
+    let lists = [&square[..], &circle[..]].map(letters::points);
+    lists.iter().flat_map(|points| orders(points)).collect()
+}
+
+/// Every order of the points.
+fn orders(points: &[Point]) -> Vec<Vec<Point>> {
+    if points.is_empty() {
+        return vec![vec![]];
+    }
+    let with_first = |first: usize| {
+        let rest = [&points[..first], &points[first + 1..]].concat();
+        orders(&rest).into_iter().map(move |order| [&points[first..=first], &order].concat())
+    };
+    (0..points.len()).flat_map(with_first).collect()
 }
 
 /// Short lists of every kind, some lists of a few hundred points, three of 4,096, and lists that cost many tests.
