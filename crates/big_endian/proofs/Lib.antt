@@ -1,4 +1,3 @@
 pub mod FieldLaws
 pub mod ByteLists
 pub mod TwosLaws
-pub mod Complement

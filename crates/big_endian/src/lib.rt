@@ -22,7 +22,7 @@ pub fn put_at(buf: &mut [u8], at: usize, n: usize, v: u64)
 }
 
 fn wide(b: u8) -> u64
-    ensures { λ r. ⌜ r ≡ b ⌝ }
+    ensures { λ r. ⌜ (r ≡ b) × (r < 256) ⌝ }
 {
     b as u64
 }

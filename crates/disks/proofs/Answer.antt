@@ -1,34 +1,33 @@
--- The answer for a list of points of the em box, written in lowest terms, keeps the limits of document 01. Assumes nothing.
---     Answer L D      D is the smallest disk of L, in lowest terms, within document 01's limits
--- Proved: every list of points of the em box, not empty, has one (`answer`), and two lists with the same points have the same (`answer-same`).
-use mathlib.Core.Path.{_≡_, refl}
-use mathlib.Core.List.{List, [], _∷_, List·Memᴰ·head}
+-- The disk of a list of points of the em box keeps document 01's limits.
+--
+--   limits     : Limits (diskOf P), for every P of at least one point, all in the em box
+use mathlib.Core.Path.{_≡_, refl, sym, _∙_, subst}
+use mathlib.Core.List.{List, [], _∷_}
+use Prim.Native.Nat.{ℕ, _*_, _≤_}
+use lib.Dec.{T}
 use lib.IntN.{ℤ, pos, negsuc, negℤ, _+ℤ_, _-ℤ_, _*ℤ_}
-use lib.Signed.{_≤ℤ_, _<ℤ_}
+use lib.Signed.{_≤ℤ_, _<ℤ_, leZ}
+use Rattle.integers.specs.Between.{between}
+use Rattle.integers.specs.Bounds.{and-left, and-right}
+use Rattle.integers.specs.Laws.{zero-*}
 use Rattle.integers.specs.Ring.{poly}
-use Rattle.integers.specs.Order.{≤-of-<, ≤-trans, nonneg, nonneg-by, positive, lt, le, eq, sq, nn, _⊞_, _⊠_}
+use Rattle.integers.specs.Order.{≤-of-eq, ≤-trans, *-pos, le-pos, nonneg, nonneg-by, positive, lt, le, eq, nn, _⊞_, _⊠_}
 use Rattle.geometry.specs.declared.Point.{Point}
+use Rattle.geometry.specs.declared.Disk.{Disk}
+use Rattle.geometry.specs.Plane.{inEmBox}
+use Rattle.disks.specs.Smallest.{In}
+use Rattle.disks.specs.Procedure.{diskOf}
+use Rattle.disks.specs.Limits.{Limits}
 use Rattle.disks.proofs.Lifted.{Lifted, squaredRadius}
-use Rattle.disks.proofs.Minimal.{In, none-of, Same, StronglyMinimal}
-use Rattle.disks.proofs.Unique.{square-positive}
-use Rattle.disks.proofs.Limits.{EmBox, Limits, em-limits}
+use Rattle.disks.proofs.Minimal.{none-of, StronglyMinimal}
+use Rattle.disks.proofs.Limits.{Box, BoxLimits, box-limits}
+use Rattle.disks.proofs.Base.{positive-two}
 use Rattle.disks.proofs.Weight.{run-weight}
 use Rattle.disks.proofs.LiftedProcedure.{mtf}
 use Rattle.disks.proofs.Correct.{mtf-strong}
-use Rattle.disks.proofs.Smallest.{Disk, Smallest}
-use Rattle.disks.proofs.Reduced.{Reduced, smallest-same}
-use Rattle.disks.proofs.Lowest.{Written, written, written-smallest}
-
-pub record Answer (L : List Point) (D : Disk) : Type 0 where
-  pub smallest : Smallest L D
-  pub reduced : Reduced (D .x) (D .y) (D .e)
-  pub e-most : D .e ≤ℤ pos 2000000
-  pub s-least : pos 0 ≤ℤ D .s
-  pub s-most : D .s ≤ℤ (pos 500000 *ℤ (D .e *ℤ D .e))
-  pub x-low : (pos 0 *ℤ D .e) ≤ℤ D .x
-  pub x-high : D .x ≤ℤ (pos 1000 *ℤ D .e)
-  pub y-low : (negsuc 249 *ℤ D .e) ≤ℤ D .y
-  pub y-high : D .y ≤ℤ (pos 750 *ℤ D .e)
+use Rattle.disks.proofs.LowestTerms.{lowered, Written, square-factor}
+use Rattle.disks.proofs.StrongSmallest.{some-positive}
+use Rattle.disks.proofs.Bridge.{strong-written, diskOf-lowered}
 
 -- ---- divided by a common factor
 
@@ -38,51 +37,57 @@ low a g C E c e hg hc he h = nonneg-by (a ∷ g ∷ C ∷ E ∷ c ∷ e ∷ []) 
 high : (a g C E c e : ℤ) → pos 0 <ℤ g → C ≡ g *ℤ c → E ≡ g *ℤ e → C ≤ℤ (a *ℤ E) → c ≤ℤ (a *ℤ e)
 high a g C E c e hg hc he h = nonneg-by (a ∷ g ∷ C ∷ E ∷ c ∷ e ∷ []) g hg (le h ⊞ eq (pos 1) hc ⊞ eq (negℤ a) he) (search poly depth 30) tt
 
-square-high : (a g S E s e : ℤ) → pos 0 <ℤ g → S ≡ (g *ℤ g) *ℤ s → E ≡ g *ℤ e → S ≤ℤ (a *ℤ (E *ℤ E)) → s ≤ℤ (a *ℤ (e *ℤ e))
-square-high a g S E s e hg hs he h = nonneg-by (a ∷ g ∷ S ∷ E ∷ s ∷ e ∷ []) (g *ℤ g) (square-positive hg) (le h ⊞ eq (pos 1) hs ⊞ eq (negℤ (a *ℤ (E +ℤ g *ℤ e))) he) (search poly depth 30) tt
+square-high : (a g S E s e : ℤ) → pos 0 <ℤ (g *ℤ g) → S ≡ (g *ℤ g) *ℤ s → E ≡ g *ℤ e → (S *ℤ pos 2) ≤ℤ ((pos 2 *ℤ a) *ℤ (E *ℤ E)) → s ≤ℤ (a *ℤ (e *ℤ e))
+square-high a g S E s e hg hs he h = nonneg-by (a ∷ g ∷ S ∷ E ∷ s ∷ e ∷ []) ((g *ℤ g) *ℤ pos 2) (*-pos hg positive-two) (le h ⊞ eq (pos 2) hs ⊞ eq (negℤ ((pos 2 *ℤ a) *ℤ (E +ℤ g *ℤ e))) he) (search poly depth 30) tt
 
-no-more : (n g E e : ℤ) → pos 0 <ℤ g → pos 0 <ℤ e → E ≡ g *ℤ e → E ≤ℤ n → e ≤ℤ n
-no-more n g E e hg hpe he h = nonneg (n ∷ g ∷ E ∷ e ∷ []) (le h ⊞ lt hg ⊠ le (≤-of-< hpe) ⊞ eq (pos 1) he) (search poly depth 30) tt
+no-more : (n g E : ℤ) (e : ℕ) → pos 0 <ℤ g → E ≡ g *ℤ pos e → E ≤ℤ n → pos e ≤ℤ n
+no-more n g E e hg he h = nonneg (n ∷ g ∷ E ∷ pos e ∷ []) (le h ⊞ lt hg ⊠ nn e ⊞ eq (pos 1) he) (search poly depth 30) tt
 
-pub answer : (p : Point) (P : List Point) → ((q : Point) → In q (p ∷ P) → EmBox q) → (D : Disk) × Answer (p ∷ P) D
-answer p P h = (
-  D,
-  record {
-    smallest = small;
-    reduced = w .reduced;
-    e-most = no-more (pos 2000000) (w .g) (F .e) (D .e) (w .factor) (small .proper) (w .e-is) weight;
-    s-least = ≤-trans (sq (p .x *ℤ D .e -ℤ D .x) ⊞ sq (p .y *ℤ D .e -ℤ D .y)) (small .encloses p (List·Memᴰ·head refl));
-    s-most = square-high (pos 500000) (w .g) (squaredRadius F) (F .e) (D .s) (D .e) (w .factor) (w .s-is) (w .e-is) (l .radius);
-    x-low = low (pos 0) (w .g) (F .cx) (F .e) (D .x) (D .e) (w .factor) (w .x-is) (w .e-is) (l .x-low);
-    x-high = high (pos 1000) (w .g) (F .cx) (F .e) (D .x) (D .e) (w .factor) (w .x-is) (w .e-is) (l .x-high);
-    y-low = low (negsuc 249) (w .g) (F .cy) (F .e) (D .y) (D .e) (w .factor) (w .y-is) (w .e-is) (l .y-low);
-    y-high = high (pos 750) (w .g) (F .cy) (F .e) (D .y) (D .e) (w .factor) (w .y-is) (w .e-is) (l .y-high);
-  },
-)
+-- ---- the em box
+
+abbrev EmBox : Point → Type 0
+EmBox p = Box (pos 0) (negsuc 249) (pos 1000) p
+
+in-box : (p : Point) → T (inEmBox p) → EmBox p
+unfolding inEmBox
+in-box p t = record {
+  left = record { le = and-left (leZ (pos 0) (p .x)) (leZ (p .x) (pos 1000)) x };
+  right = record { le = and-right (leZ (pos 0) (p .x)) (leZ (p .x) (pos 1000)) x };
+  low = record { le = and-left (leZ (negsuc 249) (p .y)) (leZ (p .y) (pos 750)) y };
+  high = record { le = and-right (leZ (negsuc 249) (p .y)) (leZ (p .y) (pos 750)) y };
+}
   where
-    F : Lifted
-    F = mtf (p ∷ P) .disk
+    x : T (between (pos 0) (p .x) (pos 1000))
+    x = and-left (between (pos 0) (p .x) (pos 1000)) (between (negsuc 249) (p .y) (pos 750)) t
 
-    m : StronglyMinimal (p ∷ P) [] F
-    m = mtf-strong p P
+    y : T (between (negsuc 249) (p .y) (pos 750))
+    y = and-right (between (pos 0) (p .x) (pos 1000)) (between (negsuc 249) (p .y) (pos 750)) t
 
-    D : Disk
-    D = written m .0
+module _ (p : Point) (P : List Point) (inside : (q : Point) → In q (p ∷ P) → T (inEmBox q)) where
+  abbrev F : Lifted
+  F = mtf (p ∷ P) .disk
 
-    w : Written F D
-    w = written m .1
+  boxed : (q : Point) → In q (p ∷ P) → EmBox q
+  boxed q i = in-box q (inside q i)
 
-    small : Smallest (p ∷ P) D
-    small = written-smallest m w
+  weight : F .e ≤ℤ pos 2000000
+  weight = run-weight (pos 0) (negsuc 249) (pos 1000) thousand 3 [] (p ∷ P) (none-of EmBox) boxed .weight
+    where
+      thousand : pos 0 <ℤ pos 1000
+      thousand = positive [] (nn 999) (search poly depth 30) tt
 
-    l : Limits F
-    l = em-limits m h
+  lowered-limits : Written F (lowered F) → BoxLimits (pos 0) (negsuc 249) (pos 1000) F → Limits (lowered F)
+  lowered-limits w l = record {
+    e-most = le-pos (no-more (pos 2000000) (pos (w .g)) (F .e) (lowered F .e) factor (w .e-is) weight);
+    s-most = le-pos (square-high (pos 500000) (pos (w .g)) (squaredRadius F) (F .e) (pos (lowered F .s)) (pos (lowered F .e)) (square-factor w) (w .s-is) (w .e-is) (l .radius));
+    x-low = ≤-trans (≤-of-eq (sym (zero-* (pos (lowered F .e))))) (low (pos 0) (pos (w .g)) (F .cx) (F .e) (lowered F .x) (pos (lowered F .e)) factor (w .x-is) (w .e-is) (l .x-low));
+    x-high = high (pos 1000) (pos (w .g)) (F .cx) (F .e) (lowered F .x) (pos (lowered F .e)) factor (w .x-is) (w .e-is) (l .x-high);
+    y-low = low (negsuc 249) (pos (w .g)) (F .cy) (F .e) (lowered F .y) (pos (lowered F .e)) factor (w .y-is) (w .e-is) (l .y-low);
+    y-high = high (pos 750) (pos (w .g)) (F .cy) (F .e) (lowered F .y) (pos (lowered F .e)) factor (w .y-is) (w .e-is) (l .y-high);
+  }
+    where
+      factor : pos 0 <ℤ pos (w .g)
+      factor = some-positive (w .g-some)
 
-    thousand : pos 0 <ℤ pos 1000
-    thousand = positive [] (nn 999) (search poly depth 30) tt
-
-    weight : F .e ≤ℤ pos 2000000
-    weight = run-weight (pos 0) (negsuc 249) (pos 1000) thousand 3 [] (p ∷ P) (none-of EmBox) h .weight
-
-pub answer-same : {L M : List Point} {D C : Disk} → Same L M → Answer L D → Answer M C → D ≡ C
-answer-same t a b = smallest-same t (a .smallest) (b .smallest) (a .reduced) (b .reduced)
+  pub limits : Limits (diskOf (p ∷ P))
+  limits = subst Limits (sym (diskOf-lowered p P)) (lowered-limits (strong-written (mtf-strong p P)) (box-limits (pos 0) (negsuc 249) (pos 1000) (mtf-strong p P) boxed))

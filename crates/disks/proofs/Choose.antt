@@ -9,23 +9,17 @@ use mathlib.Core.Logic.{_⊎_, inl, inr}
 use mathlib.Core.List.{List, [], _∷_, _++_, List·Memᴰ, List·Memᴰ·head, List·Memᴰ·tail, List·Memᴰ·cases-cons, List·Memᴰ·not-nil, List·Memᴰ·append-cases, Memᴰ·append-left, Memᴰ·append-right, Memᴰ·cast}
 use Prim.Native.Nat.{ℕ, zero, suc}
 use native.Mathlib.Omega.{arith}
+use lib.Dec as D
 use lib.ListN.{length}
 use Rattle.geometry.specs.declared.Point.{Point}
+use Rattle.geometry.specs.Order.{before}
+use Rattle.disks.specs.Support.{fronted, choose}
+use Rattle.disks.specs.FirstSupport.{Rising, Lexical, here, there}
 use Rattle.disks.proofs.Minimal.{In, also}
-use Rattle.disks.proofs.Rising.{Before, before-trans, before-not-equal, Rising}
+use Rattle.disks.proofs.Rising.{before-trans, before-not-equal}
 
 abbrev pub Among : List Point → List (List Point) → Type 0
 Among T cs = List·Memᴰ T cs
-
--- p in front of each
-unfoldable pub fronted : Point → List (List Point) → List (List Point)
-fronted p [] = []
-fronted p (T ∷ cs) = (p ∷ T) ∷ fronted p cs
-
-unfoldable pub choose : ℕ → List Point → List (List Point)
-choose zero Q = [] ∷ []
-choose (suc k) [] = []
-choose (suc k) (p ∷ Q) = fronted p (choose k Q) ++ choose (suc k) Q
 
 pub record Fronted (p : Point) (cs : List (List Point)) (T : List Point) : Type 0 where
   pub rest : List Point
@@ -111,16 +105,16 @@ choose-all [] r (a ∷ T) t f = absurd (List·Memᴰ·not-nil (f a (List·Memᴰ
 choose-all (p ∷ Q) r (a ∷ T) t f = go (λ S s g. choose-all Q (r .1) S s g) (List·Memᴰ·cases-cons (f a (List·Memᴰ·head refl)))
   where
     -- behind a, and so behind p: in Q
-    behind : (x : Point) → Before p x → (x ≡ p) ⊎ In x Q → In x Q
-    behind x h (inl e) = absurd (before-not-equal h (sym e))
+    behind : (x : Point) → D.T (before p x) → (x ≡ p) ⊎ In x Q → In x Q
+    behind x h (inl e) = absurd (before-not-equal p x h (sym e))
     behind x h (inr m) = m
 
-    beyond : (x : Point) → In x T → Before p x → In x Q
+    beyond : (x : Point) → In x T → D.T (before p x) → In x Q
     beyond x m h = behind x h (List·Memᴰ·cases-cons (f x (List·Memᴰ·tail m)))
 
     go : ((S : List Point) → Rising S → ((x : Point) → In x S → In x Q) → Among S (choose (length S) Q)) → (a ≡ p) ⊎ In a Q → Among (a ∷ T) (fronted p (choose (length T) Q) ++ choose (suc (length T)) Q)
-    go h (inl e) = Memᴰ·append-left (choose (suc (length T)) Q) (Memᴰ·cast (ap (λ (q : Point). q ∷ T) e) (in-fronted p (choose (length T) Q) (h T (t .1) (λ x m. beyond x m (subst (λ (q : Point). Before q x) e (t .0 x m))))))
-    go h (inr m) = Memᴰ·append-right (fronted p (choose (length T) Q)) (h (a ∷ T) t (also (λ x. In x Q) m (λ x n. beyond x n (before-trans (r .0 a m) (t .0 x n)))))
+    go h (inl e) = Memᴰ·append-left (choose (suc (length T)) Q) (Memᴰ·cast (ap (λ (q : Point). q ∷ T) e) (in-fronted p (choose (length T) Q) (h T (t .1) (λ x m. beyond x m (subst (λ (q : Point). D.T (before q x)) e (t .0 x m))))))
+    go h (inr m) = Memᴰ·append-right (fronted p (choose (length T) Q)) (h (a ∷ T) t (also (λ x. In x Q) m (λ x n. beyond x n (before-trans p a x (r .0 a m) (t .0 x n)))))
 
 -- ---- the order
 
@@ -136,17 +130,13 @@ later-append R (T ∷ cs) ds c d f = (λ S i. go S (List·Memᴰ·append-cases c
     go S (inl i) = c .0 S i
     go S (inr j) = f T S (List·Memᴰ·head refl) j
 
-pub data Lexical : List Point → List Point → Type 0 where
-  here : {p q : Point} {S T : List Point} → Before p q → Lexical (p ∷ S) (q ∷ T)
-  there : {p q : Point} {S T : List Point} → p ≡ q → Lexical S T → Lexical (p ∷ S) (q ∷ T)
-
 fronted-lexical : (p : Point) (cs : List (List Point)) → Later Lexical cs → Later Lexical (fronted p cs)
 unfolding fronted
 fronted-lexical p [] c = tt
 fronted-lexical p (T ∷ cs) c = (λ S i. let r = fronted-in p cs i in subst (Lexical (p ∷ T)) (sym (r .is)) (there refl (c .0 (r .rest) (r .among))), fronted-lexical p cs (c .1))
 
 -- p is before the head of every list of k + 1 points of Q
-before-head : (p : Point) (Q : List Point) → ((q : Point) → In q Q → Before p q) → (S T : List Point) → (n : ℕ) → length T ≡ suc n → ((x : Point) → In x T → In x Q) → Lexical (p ∷ S) T
+before-head : (p : Point) (Q : List Point) → ((q : Point) → In q Q → D.T (before p q)) → (S T : List Point) → (n : ℕ) → length T ≡ suc n → ((x : Point) → In x T → In x Q) → Lexical (p ∷ S) T
 before-head p Q f S [] n e g = absurd (never n e)
   where
     never : (n : ℕ) → 0 ≡ suc n → ⊥

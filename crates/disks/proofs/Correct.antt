@@ -71,7 +71,7 @@ pub record Ran (k : ℕ) (R P : List Point) (s : State) : Type 0 where
   pub count-most : s .count ≤ most k (length P)
 
 -- every run with room for k more is right
-abbrev Right : ℕ → Type 0
+abbrev pub Right : ℕ → Type 0
 Right k = (R P : List Point) (W : Lifted) → Feasible P R W → Different R → length R + k ≡ 3 → Ran k R P (runWith k R P)
 
 -- a point outside is none of R
@@ -98,11 +98,15 @@ module _ (k : ℕ) (R Q : List Point) (p : Point) (s : State) (W : Lifted) (righ
     count-most = rw most-last (omega (arith, r .count-most));
   }
 
-  -- p is outside
+  -- p is outside: what the inner run asks
+  pub inner-feasible : pos 0 <ℤ value (s .disk) p → Feasible (s .left) (p ∷ R) (through (s .disk) p W)
+  inner-feasible out = feasible-same (same-sym (perm-same (r .left-permuted))) (to-rim (found-below (r .disk-found)) out (feasible-same (same-sym same-last) f))
+
+  pub inner-different : pos 0 <ℤ value (s .disk) p → Different (p ∷ R)
+  inner-different out = ((λ m. outside-new (found-below (r .disk-found)) out m), d)
+
   inner-ran : pos 0 <ℤ value (s .disk) p → Ran k (p ∷ R) (s .left) (runWith k (p ∷ R) (s .left))
-  inner-ran out = right (p ∷ R) (s .left) (through (s .disk) p W)
-      (feasible-same (same-sym (perm-same (r .left-permuted))) (to-rim (found-below (r .disk-found)) out (feasible-same (same-sym same-last) f)))
-      ((λ m. outside-new (found-below (r .disk-found)) out m), d) (omega arith)
+  inner-ran out = right (p ∷ R) (s .left) (through (s .disk) p W) (inner-feasible out) (inner-different out) (omega arith)
 
   inner-strong : Ran k (p ∷ R) (s .left) (runWith k (p ∷ R) (s .left)) → StronglyMinimal (s .left) (p ∷ R) (runWith k (p ∷ R) (s .left) .disk)
   inner-strong i = go (i .disk-found)
@@ -118,7 +122,7 @@ module _ (k : ℕ) (R Q : List Point) (p : Point) (s : State) (W : Lifted) (righ
     count-most = rw most-last (omega (arith, r .count-most, subst (λ (n : ℕ). runWith k (p ∷ R) (s .left) .count ≤ most k n) (perm-length (r .left-permuted)) (i .count-most)));
   }
 
-  turn-ran : Ran (suc k) R (Q ++ (p ∷ [])) (turn-at (runWith k) R s p)
+  pub turn-ran : Ran (suc k) R (Q ++ (p ∷ [])) (turn-at (runWith k) R s p)
   unfolding turn-at outside
   turn-ran = go (ltZ (pos 0) (value (s .disk) p)) (λ t. record { lt = t }) (λ t. ltZ-no t)
     where
@@ -127,10 +131,10 @@ module _ (k : ℕ) (R Q : List Point) (p : Point) (s : State) (W : Lifted) (righ
       go false out in′ = turn-held (in′ tt) (runWith k (p ∷ R) (s .left))
 
 -- a part of what is held is held
-feasible-front : (Q S : List Point) {R : List Point} {W : Lifted} → Feasible (Q ++ S) R W → Feasible Q R W
+pub feasible-front : (Q S : List Point) {R : List Point} {W : Lifted} → Feasible (Q ++ S) R W → Feasible Q R W
 feasible-front Q S f = record { proper = f .proper; holds = λ q m. f .holds q (Memᴰ·append-left S m); rim = f .rim }
 
-next : (Q ps : List Point) (p : Point) → (Q ++ (p ∷ [])) ++ ps ≡ Q ++ (p ∷ ps)
+pub next : (Q ps : List Point) (p : Point) → (Q ++ (p ∷ [])) ++ ps ≡ Q ++ (p ∷ ps)
 next Q ps p = append-assoc Q (p ∷ []) ps
 
 one-by-one-ran : (k : ℕ) (R Q ps : List Point) (s : State) (W : Lifted) → Right k → length R + suc k ≡ 3 → Different R → Feasible (Q ++ ps) R W → Ran (suc k) R Q s

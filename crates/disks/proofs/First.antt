@@ -1,70 +1,45 @@
--- The first rim set of document 01. Assumes nothing.
---     sameDisk D C             the same centre and squared radius, as a test
---     candidates Q             the sets of one point of Q, then of two, then of three, each in lexical order
---     firstSupport L           the first of the sorted list's candidates whose own disk is that of L
---     Earlier S T              S has fewer points, or as many and is before T in lexical order
---     FirstSet L F T           T: one to three different points of L, rising, whose own smallest disk is F; no other such set is earlier
--- Proved: `firstSupport` is the first set (`first-support`); lists with the same points have the same (`first-same`).
+-- `firstSupport` is the first support set.
+--
+--   own-supports, supports-own : the test of specs/ decides whether a set's own smallest disk is that of P
+--   Passes t cs S              == S is the first of cs that passes t
+--   Candidate Q S              == S is one to three points of Q, rising
+--   earlier-asym               : no two sets come before one another
+--   first-support              : IsFirstSupport P (firstSupport P), for every P of at least one point
+--   first-support-same         : lists with the same points have the same first support set
 use mathlib.Core.Path.{_≡_, refl, sym, _∙_, ap, subst}
 use mathlib.Core.Logic.{_⊎_, inl, inr}
 use mathlib.Core.Bool.{Bool, true, false, _&&_}
 use mathlib.Core.List.{List, [], _∷_, _++_, List·Memᴰ·head, List·Memᴰ·tail, List·Memᴰ·cases-cons, List·Memᴰ·not-nil, List·Memᴰ·append-cases, Memᴰ·append-left, Memᴰ·append-right}
 use Prim.Native.Nat.{ℕ, suc, _≤_, _<_}
 use native.Mathlib.Omega.{arith}
-use lib.IntN.{ℤ, pos, _*ℤ_, _+ℤ_, negℤ, negsuc}
-use lib.Dec.{T}
+use lib.Dec.{T, eqb, eqb→eq, eqb-refl}
 use lib.ListN.{length}
-use lib.Signed.{_<ℤ_, leZ}
-use Rattle.integers.specs.Ring.{linear, eqn, _&_, poly}
-use Rattle.integers.specs.Order.{≤-refl, ≤-antisym}
+use Rattle.integers.specs.Bounds.{and-left, and-right}
 use Rattle.geometry.specs.declared.Point.{Point}
+use Rattle.geometry.specs.declared.Disk.{Disk}
+use Rattle.disks.specs.Smallest.{In, Same, Smallest}
+use Rattle.disks.specs.Procedure.{diskOf}
+use Rattle.geometry.specs.Order.{eqZ}
+use Rattle.disks.specs.Support.{sorted, choose, sameDisk, supports, firstOf, firstSupport}
+use Rattle.disks.specs.FirstSupport.{Rising, IsSupport, Lexical, here, there, Earlier, fewer, lexical, IsFirstSupport}
 use Rattle.disks.proofs.Lifted.{Lifted}
-use Rattle.disks.proofs.Minimal.{In, Same, StronglyMinimal, strong-same}
-use Rattle.disks.proofs.Base.{Multiple}
+use Rattle.disks.proofs.Minimal.{same-refl, same-sym, strong-same}
 use Rattle.disks.proofs.LiftedProcedure.{mtf}
 use Rattle.disks.proofs.Correct.{mtf-strong}
-use Rattle.disks.proofs.Smallest.{Disk, lower}
-use Rattle.disks.proofs.Unique.{strong-unique, strong-multiple}
-use Rattle.disks.proofs.Own.{multiple-from-same}
 use Rattle.disks.proofs.Support.{SupportSet, Supported, one, two, three, support}
-use Rattle.disks.proofs.Rising.{before-trans, before-not-equal, Rising, sorted, sorted-rises, sorted-same, sorted-length}
-use Rattle.disks.proofs.Choose.{Among, choose, choose-length, choose-in, choose-rises, choose-all, Later, later-append, Lexical, here, there, choose-lexical}
-
--- ---- the definition
-
-unfoldable pub eqZ : ℤ → ℤ → Bool
-eqZ a b = leZ a b && leZ b a
-
-unfoldable pub sameDisk : Disk → Disk → Bool
-sameDisk D C = eqZ (D .x *ℤ C .e) (C .x *ℤ D .e) && (eqZ (D .y *ℤ C .e) (C .y *ℤ D .e) && eqZ (D .s *ℤ (C .e *ℤ C .e)) (C .s *ℤ (D .e *ℤ D .e)))
-
-unfoldable pub candidates : List Point → List (List Point)
-candidates Q = choose 1 Q ++ (choose 2 Q ++ choose 3 Q)
-
-unfoldable pub pick : Bool → List Point → List Point → List Point
-pick true S T = S
-pick false S T = T
-
-unfoldable pub firstOf : (List Point → Bool) → List (List Point) → List Point
-firstOf t [] = []
-firstOf t (S ∷ cs) = pick (t S) S (firstOf t cs)
-
-unfoldable pub fixes : Lifted → List Point → Bool
-fixes F S = sameDisk (lower (mtf S .disk)) (lower F)
-
-unfoldable pub firstSupport : List Point → List Point
-firstSupport L = firstOf (fixes (mtf L .disk)) (candidates (sorted L))
+use Rattle.disks.proofs.Bridge.{strong-written, diskOf-lowered}
+use Rattle.disks.proofs.StrongSmallest.{strong-smallest}
+use Rattle.disks.proofs.OneWriting.{smallest-same}
+use Rattle.disks.proofs.Welzl.{smallest, disk-same}
+use Rattle.disks.proofs.Rising.{both, eqZ-eq, eq-eqZ, before-trans, before-not-equal, sorted-rises, sorted-same, sorted-length}
+use Rattle.disks.proofs.Choose.{Among, choose-length, choose-in, choose-rises, choose-all, Later, later-append, choose-lexical}
 
 -- ---- the order of sets
 
-pub data Earlier (S R : List Point) : Type 0 where
-  fewer : length S < length R → Earlier S R
-  lexical : length S ≡ length R → Lexical S R → Earlier S R
-
 lexical-asym : {S R : List Point} → Lexical S R → Lexical R S → ⊥
-lexical-asym (here h) (here k) = before-not-equal (before-trans h k) refl
-lexical-asym (here h) (there e k) = before-not-equal h (sym e)
-lexical-asym (there e h) (here k) = before-not-equal k (sym e)
+lexical-asym (here {p} {q} h) (here k) = before-not-equal p p (before-trans p q p h k) refl
+lexical-asym (here {p} {q} h) (there e k) = before-not-equal p q h (sym e)
+lexical-asym (there {p} {q} e h) (here k) = before-not-equal q p k (sym e)
 lexical-asym (there e h) (there f k) = lexical-asym h k
 
 pub earlier-asym : {S R : List Point} → Earlier S R → Earlier R S → ⊥
@@ -73,102 +48,87 @@ earlier-asym (fewer h) (lexical e k) = omega arith
 earlier-asym (lexical e h) (fewer k) = omega arith
 earlier-asym (lexical e h) (lexical f k) = lexical-asym h k
 
-pub record FirstSet (L : List Point) (F : Lifted) (S : List Point) : Type 0 where
-  pub rises : Rising S
-  pub members : (x : Point) → In x S → In x L
-  pub some : 1 ≤ length S
-  pub most : length S ≤ 3
-  pub own : StronglyMinimal S [] F
-  pub least : (R : List Point) → Rising R → ((x : Point) → In x R → In x L) → 1 ≤ length R → length R ≤ 3 → StronglyMinimal R [] F → (R ≡ S) ⊎ Earlier S R
-
 -- ---- the test
 
-and-left : (a b : Bool) → T (a && b) → T a
-and-left true b t = tt
-and-left false b t = t
+same-disk-eq : (c d : Disk) → T (sameDisk c d) → c ≡ d
+unfolding sameDisk
+same-disk-eq c d t = λ i. record { x = eqZ-eq (c .x) (d .x) (and-left x (y && (e && s)) t) i; y = eqZ-eq (c .y) (d .y) (and-left y (e && s) rest) i; e = eqb→eq (c .e) (d .e) (and-left e s last) i; s = eqb→eq (c .s) (d .s) (and-right e s last) i }
+  where
+    x : Bool
+    x = eqZ (c .x) (d .x)
 
-and-right : (a b : Bool) → T (a && b) → T b
-and-right true b t = t
-and-right false b t = absurd t
+    y : Bool
+    y = eqZ (c .y) (d .y)
 
-both : (a b : Bool) → T a → T b → T (a && b)
-both true b s t = t
-both false b s t = s
+    e : Bool
+    e = eqb (c .e) (d .e)
 
-eqZ-eq : (a b : ℤ) → T (eqZ a b) → a ≡ b
-unfolding eqZ
-eqZ-eq a b t = ≤-antisym (record { le = and-left (leZ a b) (leZ b a) t }) (record { le = and-right (leZ a b) (leZ b a) t })
+    s : Bool
+    s = eqb (c .s) (d .s)
 
-eq-eqZ : (a b : ℤ) → a ≡ b → T (eqZ a b)
-unfolding eqZ
-eq-eqZ a b e = subst (λ (z : ℤ). T (leZ a z && leZ z a)) e (both (leZ a a) (leZ a a) (≤-refl a .le) (≤-refl a .le))
+    rest : T (y && (e && s))
+    rest = and-right x (y && (e && s)) t
 
-module _ (F : Lifted) (proper : pos 0 <ℤ F .e) (q : Point) (Q : List Point) where
-  abbrev G : Lifted
-  G = mtf (q ∷ Q) .disk
+    last : T (e && s)
+    last = and-right y (e && s) rest
 
-  fixes-strong : T (fixes F (q ∷ Q)) → StronglyMinimal (q ∷ Q) [] F
-  unfolding fixes sameDisk
-  fixes-strong t = strong-multiple (mtf-strong q Q) proper (multiple-from-same G F (mtf-strong q Q .feasible .proper) proper (eqZ-eq (G .cx *ℤ F .e) (F .cx *ℤ G .e) x) (eqZ-eq (G .cy *ℤ F .e) (F .cy *ℤ G .e) (and-left y s rest)) (eqZ-eq (lower G .s *ℤ (F .e *ℤ F .e)) (lower F .s *ℤ (G .e *ℤ G .e)) (and-right y s rest)))
-    where
-      y : Bool
-      y = eqZ (G .cy *ℤ F .e) (F .cy *ℤ G .e)
+same-disk-refl : (d : Disk) → T (sameDisk d d)
+unfolding sameDisk
+same-disk-refl d = both (eqZ (d .x) (d .x)) (eqZ (d .y) (d .y) && (eqb (d .e) (d .e) && eqb (d .s) (d .s))) (eq-eqZ (d .x) (d .x) refl)
+    (both (eqZ (d .y) (d .y)) (eqb (d .e) (d .e) && eqb (d .s) (d .s)) (eq-eqZ (d .y) (d .y) refl) (both (eqb (d .e) (d .e)) (eqb (d .s) (d .s)) (eqb-refl (d .e)) (eqb-refl (d .s))))
 
-      s : Bool
-      s = eqZ (lower G .s *ℤ (F .e *ℤ F .e)) (lower F .s *ℤ (G .e *ℤ G .e))
+no-points : 1 ≤ 0 → ⊥
+no-points h = omega arith
 
-      x : T (eqZ (G .cx *ℤ F .e) (F .cx *ℤ G .e))
-      x = and-left (eqZ (G .cx *ℤ F .e) (F .cx *ℤ G .e)) (y && s) t
+pub supports-own : (P S : List Point) → 1 ≤ length S → T (supports P S) → Smallest S (diskOf P)
+unfolding supports
+supports-own P [] h t = absurd (no-points h)
+supports-own P (q ∷ S) h t = subst (Smallest (q ∷ S)) (same-disk-eq (diskOf (q ∷ S)) (diskOf P) t) (smallest q S)
 
-      rest : T (y && s)
-      rest = and-right (eqZ (G .cx *ℤ F .e) (F .cx *ℤ G .e)) (y && s) t
-
-  strong-fixes : StronglyMinimal (q ∷ Q) [] F → T (fixes F (q ∷ Q))
-  unfolding fixes sameDisk
-  strong-fixes m = both (eqZ (G .cx *ℤ F .e) (F .cx *ℤ G .e)) (eqZ (G .cy *ℤ F .e) (F .cy *ℤ G .e) && eqZ (lower G .s *ℤ (F .e *ℤ F .e)) (lower F .s *ℤ (G .e *ℤ G .e)))
-      (eq-eqZ (G .cx *ℤ F .e) (F .cx *ℤ G .e) (linear (G .e ∷ G .cx ∷ F .e ∷ F .cx ∷ []) (eqn (negsuc 0) (u .same-x)) (search poly depth 30) tt))
-      (both (eqZ (G .cy *ℤ F .e) (F .cy *ℤ G .e)) (eqZ (lower G .s *ℤ (F .e *ℤ F .e)) (lower F .s *ℤ (G .e *ℤ G .e)))
-      (eq-eqZ (G .cy *ℤ F .e) (F .cy *ℤ G .e) (linear (G .e ∷ G .cy ∷ F .e ∷ F .cy ∷ []) (eqn (negsuc 0) (u .same-y)) (search poly depth 30) tt))
-      (eq-eqZ (lower G .s *ℤ (F .e *ℤ F .e)) (lower F .s *ℤ (G .e *ℤ G .e)) (same-radius G F u)))
-    where
-      u : Multiple G F
-      u = strong-unique (mtf-strong q Q) m
-
-      same-radius : (G F : Lifted) → Multiple G F → lower G .s *ℤ (F .e *ℤ F .e) ≡ lower F .s *ℤ (G .e *ℤ G .e)
-      same-radius G F u = linear (G .e ∷ G .cx ∷ G .cy ∷ G .k ∷ F .e ∷ F .cx ∷ F .cy ∷ F .k ∷ [])
-          (eqn (negℤ (G .e *ℤ F .cx +ℤ F .e *ℤ G .cx)) (u .same-x) & eqn (negℤ (G .e *ℤ F .cy +ℤ F .e *ℤ G .cy)) (u .same-y) & eqn (G .e *ℤ F .e) (u .same-k)) (search poly depth 30) tt
+pub own-supports : (P S : List Point) → 1 ≤ length S → Smallest S (diskOf P) → T (supports P S)
+unfolding supports
+own-supports P [] h m = absurd (no-points h)
+own-supports P (q ∷ S) h m = subst (λ (d : Disk). T (sameDisk (diskOf (q ∷ S)) d)) (smallest-same (same-refl (q ∷ S)) (same-refl []) (smallest q S) m) (same-disk-refl (diskOf (q ∷ S)))
 
 -- ---- the first that passes
+
+pub first-yes : (t : List Point → Bool) (S : List Point) (cs : List (List Point)) → t S ≡ true → firstOf t (S ∷ cs) ≡ S
+unfolding firstOf
+first-yes t S cs e = rw e
+
+pub first-no : (t : List Point → Bool) (S : List Point) (cs : List (List Point)) → t S ≡ false → firstOf t (S ∷ cs) ≡ firstOf t cs
+unfolding firstOf
+first-no t S cs e = rw e
 
 pub record Passes (t : List Point → Bool) (cs : List (List Point)) (S : List Point) : Type 0 where
   pub among : Among S cs
   pub passes : T (t S)
   pub least : (R : List Point) → Among R cs → T (t R) → (R ≡ S) ⊎ Earlier S R
 
-pick-passes : (t : List Point → Bool) (S : List Point) (cs : List (List Point)) → Later Earlier (S ∷ cs) → (b : Bool) → t S ≡ b → (T (t S) ⊎ Passes t cs (firstOf t cs)) → Passes t (S ∷ cs) (pick b S (firstOf t cs))
-unfolding pick
-pick-passes t S cs l true e f = record { among = List·Memᴰ·head refl; passes = subst T (sym e) tt; least = λ R i h. go R (List·Memᴰ·cases-cons i) }
-  where
-    go : (R : List Point) → (R ≡ S) ⊎ Among R cs → (R ≡ S) ⊎ Earlier S R
-    go R (inl k) = inl k
-    go R (inr j) = inr (l .0 R j)
-pick-passes t S cs l false e (inl h) = absurd (subst T e h)
-pick-passes t S cs l false e (inr p) = record { among = List·Memᴰ·tail (p .among); passes = p .passes; least = λ R i h. go R h (List·Memᴰ·cases-cons i) }
-  where
-    go : (R : List Point) → T (t R) → (R ≡ S) ⊎ Among R cs → (R ≡ firstOf t cs) ⊎ Earlier (firstOf t cs) R
-    go R h (inl k) = absurd (subst T (ap t k ∙ e) h)
-    go R h (inr j) = p .least R j h
-
 pub first-passes : (t : List Point → Bool) (cs : List (List Point)) → Later Earlier cs → (R : List Point) → Among R cs → T (t R) → Passes t cs (firstOf t cs)
-unfolding firstOf
 first-passes t [] l R i h = absurd (List·Memᴰ·not-nil i)
-first-passes t (S ∷ cs) l R i h = pick-passes t S cs l (t S) refl (go (λ j. first-passes t cs (l .1) R j h) (List·Memᴰ·cases-cons i))
+first-passes t (S ∷ cs) l R i h = go (λ j. first-passes t cs (l .1) R j h) (t S) refl (List·Memᴰ·cases-cons i)
   where
-    go : (Among R cs → Passes t cs (firstOf t cs)) → (R ≡ S) ⊎ Among R cs → T (t S) ⊎ Passes t cs (firstOf t cs)
-    go f (inl e) = inl (subst (λ (l : List Point). T (t l)) e h)
-    go f (inr j) = inr (f j)
+    here-first : (A : List Point) → (A ≡ S) ⊎ Among A cs → (A ≡ S) ⊎ Earlier S A
+    here-first A (inl k) = inl k
+    here-first A (inr j) = inr (l .0 A j)
+
+    later-first : t S ≡ false → Passes t cs (firstOf t cs) → (A : List Point) → T (t A) → (A ≡ S) ⊎ Among A cs → (A ≡ firstOf t cs) ⊎ Earlier (firstOf t cs) A
+    later-first e p A k (inl f) = absurd (subst T (ap t f ∙ e) k)
+    later-first e p A k (inr j) = p .least A j k
+
+    later : t S ≡ false → Passes t cs (firstOf t cs) → Passes t (S ∷ cs) (firstOf t cs)
+    later e p = record { among = List·Memᴰ·tail (p .among); passes = p .passes; least = λ A j k. later-first e p A k (List·Memᴰ·cases-cons j) }
+
+    go : (Among R cs → Passes t cs (firstOf t cs)) → (b : Bool) → t S ≡ b → (R ≡ S) ⊎ Among R cs → Passes t (S ∷ cs) (firstOf t (S ∷ cs))
+    go f true e c = subst (Passes t (S ∷ cs)) (sym (first-yes t S cs e)) (record { among = List·Memᴰ·head refl; passes = subst T (sym e) tt; least = λ A j k. here-first A (List·Memᴰ·cases-cons j) })
+    go f false e (inl k) = absurd (subst T (ap t k ∙ e) h)
+    go f false e (inr j) = subst (Passes t (S ∷ cs)) (sym (first-no t S cs e)) (later e (f j))
 
 -- ---- the candidates
+
+abbrev candidates : List Point → List (List Point)
+candidates Q = choose 1 Q ++ (choose 2 Q ++ choose 3 Q)
 
 lexical-earlier : (k : ℕ) (cs : List (List Point)) → ((S : List Point) → Among S cs → length S ≡ k) → Later Lexical cs → Later Earlier cs
 lexical-earlier k [] f l = tt
@@ -187,7 +147,6 @@ chosen : (k : ℕ) (Q S : List Point) → Rising Q → 1 ≤ k → k ≤ 3 → A
 chosen k Q S r h l i = let e : length S ≡ k = choose-length k Q S i in record { rises = choose-rises k Q r S i; members = choose-in k Q S i; some = omega arith; most = omega arith }
 
 candidate : (Q S : List Point) → Rising Q → Among S (candidates Q) → Candidate Q S
-unfolding candidates
 candidate Q S r i = go (List·Memᴰ·append-cases (choose 1 Q) i)
   where
     end : Among S (choose 2 Q) ⊎ Among S (choose 3 Q) → Candidate Q S
@@ -199,11 +158,7 @@ candidate Q S r i = go (List·Memᴰ·append-cases (choose 1 Q) i)
     go (inr j) = end (List·Memᴰ·append-cases (choose 2 Q) j)
 
 a-candidate : (Q S : List Point) → Rising Q → Candidate Q S → Among S (candidates Q)
-unfolding candidates
-a-candidate Q [] r c = absurd (no (c .some))
-  where
-    no : 1 ≤ 0 → ⊥
-    no h = omega arith
+a-candidate Q [] r c = absurd (no-points (c .some))
 a-candidate Q (a ∷ []) r c = Memᴰ·append-left (choose 2 Q ++ choose 3 Q) (choose-all Q r (a ∷ []) (c .rises) (c .members))
 a-candidate Q (a ∷ b ∷ []) r c = Memᴰ·append-right (choose 1 Q) (Memᴰ·append-left (choose 3 Q) (choose-all Q r (a ∷ b ∷ []) (c .rises) (c .members)))
 a-candidate Q (a ∷ b ∷ d ∷ []) r c = Memᴰ·append-right (choose 1 Q) (Memᴰ·append-right (choose 2 Q) (choose-all Q r (a ∷ b ∷ d ∷ []) (c .rises) (c .members)))
@@ -213,7 +168,6 @@ a-candidate Q (a ∷ b ∷ d ∷ e ∷ S) r c = absurd (no (length S) (c .most))
     no n h = omega arith
 
 candidates-earlier : (Q : List Point) → Rising Q → Later Earlier (candidates Q)
-unfolding candidates
 candidates-earlier Q r = later-append Earlier (choose 1 Q) (choose 2 Q ++ choose 3 Q) (chosen-earlier 1 Q r) (later-append Earlier (choose 2 Q) (choose 3 Q) (chosen-earlier 2 Q r) (chosen-earlier 3 Q r)
     (λ S R i j. fewer (omega (arith, choose-length 2 Q S i, choose-length 3 Q R j))))
     (λ S R i j. one-first S R i (List·Memᴰ·append-cases (choose 2 Q) j))
@@ -228,79 +182,83 @@ not-empty : (S : List Point) {x : Point} → In x S → 1 ≤ length S
 not-empty [] i = absurd (List·Memᴰ·not-nil i)
 not-empty (a ∷ S) i = omega arith
 
-module _ {L : List Point} {F : Lifted} (m : StronglyMinimal L [] F) where
-  proper : pos 0 <ℤ F .e
-  proper = m .feasible .proper
+module _ (p : Point) (P : List Point) where
+  abbrev L : List Point
+  L = p ∷ P
 
-  passes-strong : (S : List Point) → 1 ≤ length S → T (fixes F S) → StronglyMinimal S [] F
-  passes-strong [] h t = absurd (no h)
-    where
-      no : 1 ≤ 0 → ⊥
-      no h = omega arith
-  passes-strong (q ∷ Q) h t = fixes-strong F proper q Q t
-
-  strong-passes : (S : List Point) → 1 ≤ length S → StronglyMinimal S [] F → T (fixes F S)
-  strong-passes [] h s = absurd (no h)
-    where
-      no : 1 ≤ 0 → ⊥
-      no h = omega arith
-  strong-passes (q ∷ Q) h s = strong-fixes F proper q Q s
+  abbrev found : List Point
+  found = firstOf (supports L) (candidates (sorted L))
 
   to-sorted : (S : List Point) → ((x : Point) → In x S → In x L) → (x : Point) → In x S → In x (sorted L)
   to-sorted S f x i = sorted-same L .to x (f x i)
 
   -- a support set, sorted, is a candidate that passes
-  some-set : (S : List Point) → SupportSet L S F → (a : Point) → In a S → length S ≤ 3 → Passes (fixes F) (candidates (sorted L)) (firstOf (fixes F) (candidates (sorted L)))
-  some-set S s a i h = first-passes (fixes F) (candidates (sorted L)) (candidates-earlier (sorted L) (sorted-rises L)) (sorted S)
+  some-set : (S : List Point) → SupportSet L S (mtf L .disk) → (a : Point) → In a S → length S ≤ 3 → Passes (supports L) (candidates (sorted L)) found
+  some-set S s a i h = first-passes (supports L) (candidates (sorted L)) (candidates-earlier (sorted L) (sorted-rises L)) (sorted S)
       (a-candidate (sorted L) (sorted S) (sorted-rises L) (record {
         rises = sorted-rises S;
         members = λ x k. to-sorted S (s .members) x (sorted-same S .from x k);
         some = long;
         most = omega (arith, sorted-length S, h);
       }))
-      (strong-passes (sorted S) long (strong-same (sorted-same S) (s .own)))
+      (own-supports L (sorted S) long (subst (Smallest (sorted S)) (sym (diskOf-lowered p P)) (strong-smallest (strong-same (sorted-same S) (s .own)) (strong-written (mtf-strong p P)))))
     where
       long : 1 ≤ length (sorted S)
       long = not-empty (sorted S) (sorted-same S .to a i)
 
-  there-is : Supported L F → Passes (fixes F) (candidates (sorted L)) (firstOf (fixes F) (candidates (sorted L)))
+  there-is : Supported L (mtf L .disk) → Passes (supports L) (candidates (sorted L)) found
   there-is (one a s) = some-set (a ∷ []) s a (List·Memᴰ·head refl) (omega arith)
   there-is (two a b s) = some-set (a ∷ b ∷ []) s a (List·Memᴰ·head refl) (omega arith)
   there-is (three a b c s) = some-set (a ∷ b ∷ c ∷ []) s a (List·Memᴰ·head refl) (omega arith)
 
-  pub first-set : FirstSet L F (firstOf (fixes F) (candidates (sorted L)))
-  first-set = record {
-    rises = c .rises;
-    members = λ x i. sorted-same L .from x (c .members x i);
-    some = c .some;
-    most = c .most;
-    own = passes-strong S (c .some) (p .passes);
-    least = λ R r f h k s. p .least R (a-candidate (sorted L) R (sorted-rises L) (record { rises = r; members = to-sorted R f; some = h; most = k })) (strong-passes R h s);
+  pub first-support : IsFirstSupport L (firstSupport L)
+  unfolding firstSupport
+  first-support = record {
+    supports = record {
+      rises = c .rises;
+      members = λ x i. sorted-same L .from x (c .members x i);
+      some = c .some;
+      most = c .most;
+      disk = diskOf L;
+      whole = smallest p P;
+      own = supports-own L found (c .some) (f .passes);
+    };
+    first = λ R s. f .least R (a-candidate (sorted L) R (sorted-rises L) (record { rises = s .rises; members = to-sorted R (s .members); some = s .some; most = s .most })) (own-supports L R (s .some) (own-disk R s));
   }
     where
-      S : List Point
-      S = firstOf (fixes F) (candidates (sorted L))
+      f : Passes (supports L) (candidates (sorted L)) found
+      f = there-is (support (mtf-strong p P))
 
-      p : Passes (fixes F) (candidates (sorted L)) S
-      p = there-is (support m)
+      c : Candidate (sorted L) found
+      c = candidate (sorted L) found (sorted-rises L) (f .among)
 
-      c : Candidate (sorted L) S
-      c = candidate (sorted L) S (sorted-rises L) (p .among)
-
-pub first-support : (p : Point) (P : List Point) → FirstSet (p ∷ P) (mtf (p ∷ P) .disk) (firstSupport (p ∷ P))
-unfolding firstSupport
-first-support p P = first-set (mtf-strong p P)
+      own-disk : (R : List Point) → (s : IsSupport L R) → Smallest R (diskOf L)
+      own-disk R s = subst (Smallest R) (smallest-same (same-refl L) (same-refl []) (s .whole) (smallest p P)) (s .own)
 
 -- ---- it depends on the points alone
 
-pub first-unique : {L M : List Point} {F G : Lifted} {S R : List Point} → Same L M → StronglyMinimal L [] F → StronglyMinimal M [] G → FirstSet L F S → FirstSet M G R → S ≡ R
-first-unique {L} {M} {F} {G} {S} {R} e m n s r = go (s .least R (r .rises) (λ x i. e .from x (r .members x i)) (r .some) (r .most) (strong-multiple (r .own) (m .feasible .proper) (strong-unique n (strong-same e m))))
-    (r .least S (s .rises) (λ x i. e .to x (s .members x i)) (s .some) (s .most) (strong-multiple (s .own) (n .feasible .proper) (strong-unique (strong-same e m) n)))
+-- the smallest disk of P is that of Q
+support-of-same : {P Q S : List Point} {d : Disk} → Same P Q → Smallest Q d → IsSupport P S → IsSupport Q S
+support-of-same {d} e m s = record {
+  rises = s .rises;
+  members = λ x i. e .to x (s .members x i);
+  some = s .some;
+  most = s .most;
+  disk = d;
+  whole = m;
+  own = subst (Smallest _) (smallest-same e (same-refl []) (s .whole) m) (s .own);
+}
+
+pub first-unique : {P Q S R : List Point} → Same P Q → IsFirstSupport P S → IsFirstSupport Q R → S ≡ R
+first-unique {P} {Q} {S} {R} e s r = go (s .first R (support-of-same (same-sym e) (s .supports .whole) (r .supports))) (r .first S (support-of-same e (r .supports .whole) (s .supports)))
   where
     go : (R ≡ S) ⊎ Earlier S R → (S ≡ R) ⊎ Earlier R S → S ≡ R
     go (inl k) h = sym k
     go (inr k) (inl h) = h
     go (inr k) (inr h) = absurd (earlier-asym k h)
 
-pub first-same : (p : Point) (P : List Point) (q : Point) (Q : List Point) → Same (p ∷ P) (q ∷ Q) → firstSupport (p ∷ P) ≡ firstSupport (q ∷ Q)
-first-same p P q Q e = first-unique e (mtf-strong p P) (mtf-strong q Q) (first-support p P) (first-support q Q)
+pub first-support-same : (P Q : List Point) → Same P Q → firstSupport P ≡ firstSupport Q
+first-support-same [] [] s = refl
+first-support-same [] (q ∷ Q) s = absurd (List·Memᴰ·not-nil (s .from q (List·Memᴰ·head refl)))
+first-support-same (p ∷ P) [] s = absurd (List·Memᴰ·not-nil (s .to p (List·Memᴰ·head refl)))
+first-support-same (p ∷ P) (q ∷ Q) s = first-unique s (first-support p P) (first-support q Q)

@@ -1,12 +1,13 @@
 -- How large the numbers of a smallest disk can be. Assumes nothing.
 --     Box x0 y0 l p         p lies in the square with the corner (x0, y0) and side l
---     Limits F              document 01's limits: the centre in the em box, S/E² at most 500,000
--- Proved: a half plane that has all points has the centre (`centre-side`); so a smallest disk of points of the em box has these limits (`em-limits`);
+--     BoxLimits x0 y0 l F   the centre lies in that square, and S/E² is at most l²/2
+-- Proved: a half plane that has all points has the centre (`centre-side`); so a smallest disk of points of the square has these limits (`box-limits`);
 -- twice the area of a triangle in a square is at most the square (`turn-bound`), so E is at most twice the square (`triple-weight`).
 use mathlib.Core.Path.{_≡_, sym, _∙_, ap, subst}
 use mathlib.Core.Logic.{_⊎_, inl, inr}
 use mathlib.Core.Bool.{Bool, true, false}
 use mathlib.Core.List.{List, [], _∷_, List·Memᴰ·not-nil}
+use native.Mathlib.Omega.{arith}
 use lib.IntN.{ℤ, pos, negsuc, negℤ, _+ℤ_, _-ℤ_, _*ℤ_}
 use lib.Signed.{_≤ℤ_, _<ℤ_, ltZ}
 use Rattle.integers.specs.Ring.{ring, poly}
@@ -16,7 +17,8 @@ use Rattle.disks.proofs.Lifted.{Lifted, value, gap, combine, value-comb
 use Rattle.disks.proofs.Minimal.{In, Feasible, StronglyMinimal}
 use Rattle.disks.proofs.Base.{positive-one}
 use Rattle.disks.proofs.Triple.{turn, turned, circle, tripleDisk}
-use Rattle.disks.proofs.Smallest.{strong-smallest, distance}
+use Rattle.disks.specs.Smallest.{RationalDisk, Fits}
+use Rattle.disks.proofs.StrongSmallest.{lifted-least}
 
 -- ---- the centre lies where the points lie
 
@@ -75,7 +77,7 @@ centre-side {P} {F} s u v t hn h = above F u v t (go (≤-or-< (pos 0) (over F u
     go (inl k) = k
     go (inr k) = push-worse n (F .e) m (s .feasible .proper) k (subst (λ (z : ℤ). pos 0 ≤ℤ z) G-gap (s .least G (G-feasible k)))
 
--- ---- the em box
+-- ---- points in a square
 
 pub record Box (x0 y0 l : ℤ) (p : Point) : Type 0 where
   pub left : x0 ≤ℤ p .x
@@ -83,38 +85,43 @@ pub record Box (x0 y0 l : ℤ) (p : Point) : Type 0 where
   pub low : y0 ≤ℤ p .y
   pub high : p .y ≤ℤ (y0 +ℤ l)
 
-abbrev pub EmBox : Point → Type 0
-EmBox p = Box (pos 0) (negsuc 249) (pos 1000) p
+pub record BoxLimits (x0 y0 l : ℤ) (F : Lifted) : Type 0 where
+  pub x-low : (x0 *ℤ F .e) ≤ℤ F .cx
+  pub x-high : F .cx ≤ℤ ((x0 +ℤ l) *ℤ F .e)
+  pub y-low : (y0 *ℤ F .e) ≤ℤ F .cy
+  pub y-high : F .cy ≤ℤ ((y0 +ℤ l) *ℤ F .e)
+  -- at most half the square of the side
+  pub radius : (squaredRadius F *ℤ pos 2) ≤ℤ ((l *ℤ l) *ℤ (F .e *ℤ F .e))
 
-pub record Limits (F : Lifted) : Type 0 where
-  pub x-low : (pos 0 *ℤ F .e) ≤ℤ F .cx
-  pub x-high : F .cx ≤ℤ (pos 1000 *ℤ F .e)
-  pub y-low : (negsuc 249 *ℤ F .e) ≤ℤ F .cy
-  pub y-high : F .cy ≤ℤ (pos 750 *ℤ F .e)
-  pub radius : squaredRadius F ≤ℤ (pos 500000 *ℤ (F .e *ℤ F .e))
+module _ {P : List Point} {F : Lifted} (x0 y0 l : ℤ) (s : StronglyMinimal P [] F) (inside : (p : Point) → In p P → Box x0 y0 l p) where
+  x-low : (x0 *ℤ F .e) ≤ℤ F .cx
+  x-low = nonneg (x0 ∷ F .e ∷ F .cx ∷ F .cy ∷ []) (le (centre-side s (pos 1) (pos 0) x0 positive-one (λ p i. nonneg (x0 ∷ p .x ∷ p .y ∷ []) (le (inside p i .left)) (search poly depth 30) tt))) (search poly depth 60 fits 9000) tt
 
-module _ {P : List Point} {F : Lifted} (s : StronglyMinimal P [] F) (inside : (p : Point) → In p P → EmBox p) where
-  x-low : (pos 0 *ℤ F .e) ≤ℤ F .cx
-  x-low = nonneg (F .e ∷ F .cx ∷ F .cy ∷ []) (le (centre-side s (pos 1) (pos 0) (pos 0) positive-one (λ p i. nonneg (p .x ∷ p .y ∷ []) (le (inside p i .left)) (search poly depth 30) tt))) (search poly depth 60 fits 9000) tt
+  x-high : F .cx ≤ℤ ((x0 +ℤ l) *ℤ F .e)
+  x-high = nonneg (x0 ∷ l ∷ F .e ∷ F .cx ∷ F .cy ∷ []) (le (centre-side s (negsuc 0) (pos 0) (negℤ (x0 +ℤ l)) positive-one (λ p i. nonneg (x0 ∷ l ∷ p .x ∷ p .y ∷ []) (le (inside p i .right)) (search poly depth 30) tt))) (search poly depth 60 fits 9000) tt
 
-  x-high : F .cx ≤ℤ (pos 1000 *ℤ F .e)
-  x-high = nonneg (F .e ∷ F .cx ∷ F .cy ∷ []) (le (centre-side s (negsuc 0) (pos 0) (negsuc 999) positive-one (λ p i. nonneg (p .x ∷ p .y ∷ []) (le (inside p i .right)) (search poly depth 30) tt))) (search poly depth 60 fits 9000) tt
+  y-low : (y0 *ℤ F .e) ≤ℤ F .cy
+  y-low = nonneg (y0 ∷ F .e ∷ F .cx ∷ F .cy ∷ []) (le (centre-side s (pos 0) (pos 1) y0 positive-one (λ p i. nonneg (y0 ∷ p .x ∷ p .y ∷ []) (le (inside p i .low)) (search poly depth 30) tt))) (search poly depth 60 fits 9000) tt
 
-  y-low : (negsuc 249 *ℤ F .e) ≤ℤ F .cy
-  y-low = nonneg (F .e ∷ F .cx ∷ F .cy ∷ []) (le (centre-side s (pos 0) (pos 1) (negsuc 249) positive-one (λ p i. nonneg (p .x ∷ p .y ∷ []) (le (inside p i .low)) (search poly depth 30) tt))) (search poly depth 60 fits 9000) tt
+  y-high : F .cy ≤ℤ ((y0 +ℤ l) *ℤ F .e)
+  y-high = nonneg (y0 ∷ l ∷ F .e ∷ F .cx ∷ F .cy ∷ []) (le (centre-side s (pos 0) (negsuc 0) (negℤ (y0 +ℤ l)) positive-one (λ p i. nonneg (y0 ∷ l ∷ p .x ∷ p .y ∷ []) (le (inside p i .high)) (search poly depth 30) tt))) (search poly depth 60 fits 9000) tt
 
-  y-high : F .cy ≤ℤ (pos 750 *ℤ F .e)
-  y-high = nonneg (F .e ∷ F .cx ∷ F .cy ∷ []) (le (centre-side s (pos 0) (negsuc 0) (negsuc 749) positive-one (λ p i. nonneg (p .x ∷ p .y ∷ []) (le (inside p i .high)) (search poly depth 30) tt))) (search poly depth 60 fits 9000) tt
+  -- the disk about the square: centre (x0 + l/2, y0 + l/2), squared radius l²/2
+  abbrev about : RationalDisk
+  about = record { x = pos 2 *ℤ x0 +ℤ l; y = pos 2 *ℤ y0 +ℤ l; e = 2; a = l *ℤ l; b = 2; e-some = omega arith; b-some = omega arith }
 
-  -- the disk about the em box: centre (500, 250), squared radius 500,000
-  about : (p : Point) → In p P → (pos 1 *ℤ distance p (pos 500) (pos 250) (pos 1)) ≤ℤ (pos 500000 *ℤ (pos 1 *ℤ pos 1))
-  about p i = nonneg (p .x ∷ p .y ∷ []) (le (inside p i .left) ⊠ le (inside p i .right) ⊞ le (inside p i .low) ⊠ le (inside p i .high)) (search poly depth 30) tt
+  about-holds : (a b : ℤ) → x0 ≤ℤ a → a ≤ℤ (x0 +ℤ l) → y0 ≤ℤ b → b ≤ℤ (y0 +ℤ l)
+      → (pos 2 *ℤ ((a *ℤ pos 2 -ℤ (pos 2 *ℤ x0 +ℤ l)) *ℤ (a *ℤ pos 2 -ℤ (pos 2 *ℤ x0 +ℤ l)) +ℤ (b *ℤ pos 2 -ℤ (pos 2 *ℤ y0 +ℤ l)) *ℤ (b *ℤ pos 2 -ℤ (pos 2 *ℤ y0 +ℤ l)))) ≤ℤ ((l *ℤ l) *ℤ pos 4)
+  about-holds a b h1 h2 h3 h4 = nonneg (x0 ∷ y0 ∷ l ∷ a ∷ b ∷ []) (nn 8 ⊠ (le h1 ⊠ le h2) ⊞ nn 8 ⊠ (le h3 ⊠ le h4)) (search poly depth 30) tt
 
-  radius : squaredRadius F ≤ℤ (pos 500000 *ℤ (F .e *ℤ F .e))
-  radius = nonneg (F .e ∷ F .cx ∷ F .cy ∷ F .k ∷ []) (le (strong-smallest s .least (pos 500) (pos 250) (pos 1) (pos 500000) (pos 1) positive-one positive-one about)) (search poly depth 30) tt
+  about-fits : Fits about P []
+  about-fits = record {
+    holds-all = λ p i. about-holds (p .x) (p .y) (inside p i .left) (inside p i .right) (inside p i .low) (inside p i .high);
+    through-all = λ q i. absurd (List·Memᴰ·not-nil i);
+  }
 
-  pub em-limits : Limits F
-  em-limits = record { x-low = x-low; x-high = x-high; y-low = y-low; y-high = y-high; radius = radius }
+  pub box-limits : BoxLimits x0 y0 l F
+  box-limits = record { x-low = x-low; x-high = x-high; y-low = y-low; y-high = y-high; radius = lifted-least s about about-fits }
 
 -- ---- twice the area of a triangle in a square
 

@@ -2,22 +2,20 @@
 --     Feasible P R F            F is a disk that holds each point of P and has each point of R on its rim
 --     StronglyMinimal P R F     F is feasible, and gap F G is not negative for every feasible G: F is the smallest, and no other is
 --     Below P R F               what the step asks of the disk found so far; the empty disk has it too
---     Same P Q                  P and Q have the same members; In, none-of, also: membership, and a fact of each member put together
+--     none-of, also             a fact of each member of a list, put together; `In` and `Same` are those of specs/Smallest.antt
 -- Proved: a strongly minimal disk is below (`strong-below`), and the empty disk is (`none-below`); a point outside goes to the rim
 -- (`to-rim`: a disk feasible for (P, R + p); `step`: the strongly minimal disk of (P, R + p) is that of (P + p, R)); a point that is held
 -- changes nothing (`held`); all this depends on the members alone (`strong-same`, `feasible-same`).
 use mathlib.Core.Path.{_≡_, refl, sym, _∙_, ap, subst}
 use mathlib.Core.Logic.{_⊎_, inl, inr}
-use mathlib.Core.List.{List, [], _∷_, List·Memᴰ, List·Memᴰ·head, List·Memᴰ·tail, List·Memᴰ·cases-cons, List·Memᴰ·not-nil}
+use mathlib.Core.List.{List, [], _∷_, List·Memᴰ·head, List·Memᴰ·tail, List·Memᴰ·cases-cons, List·Memᴰ·not-nil}
 use lib.IntN.{ℤ, pos, negsuc, negℤ, _+ℤ_, _*ℤ_}
 use lib.Signed.{_≤ℤ_, _<ℤ_}
 use Rattle.integers.specs.Ring.{ring, poly}
 use Rattle.integers.specs.Order.{≤-of-eq, ≤-of-<, nonneg, positive, nonneg-by, le, lt, eq, sq, nn, _⊞_, _⊠_}
 use Rattle.geometry.specs.declared.Point.{Point}
+pub use Rattle.disks.specs.Smallest.{In, Same}
 use Rattle.disks.proofs.Lifted.{Lifted, value, gap, combine, noDisk, apart-x, apart-y, value-combine, gap-combine, gap-both, gap-none}
-
-abbrev pub In : Point → List Point → Type 0
-In p P = List·Memᴰ p P
 
 -- what holds of each point of a list, put together
 pub none-of : (Z : Point → Type 0) (p : Point) → In p [] → Z p
@@ -46,10 +44,6 @@ pub record Below (P R : List Point) (F : Lifted) : Type 0 where
   pub under : (G : Lifted) → Feasible P R G → gap G F ≤ℤ pos 0
 
 -- ---- the members
-
-pub record Same (P Q : List Point) : Type 0 where
-  pub to : (p : Point) → In p P → In p Q
-  pub from : (p : Point) → In p Q → In p P
 
 pub same-refl : (P : List Point) → Same P P
 same-refl P = record { to = λ p m. m; from = λ p m. m }

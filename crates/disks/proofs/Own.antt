@@ -10,7 +10,9 @@ use lib.Signed.{_≤ℤ_, _<ℤ_}
 use Rattle.integers.specs.Ring.{poly, linear, eqn, _&_}
 use Rattle.integers.specs.Order.{≡-cancel, ≤-of-eq, nonneg, le}
 use Rattle.geometry.specs.declared.Point.{Point}
-use Rattle.disks.proofs.Lifted.{Lifted, value}
+use Rattle.geometry.specs.declared.Disk.{Disk}
+use Rattle.disks.specs.Smallest.{Smallest}
+use Rattle.disks.proofs.Lifted.{Lifted, value, squaredRadius}
 use Rattle.disks.proofs.Minimal.{none-of, also, same-refl, StronglyMinimal}
 use Rattle.disks.proofs.Base.{Multiple, pointDisk, point-value, point-gap, positive-not-zero, positive-one}
 use Rattle.disks.proofs.Weights.{one-strong, two-strong}
@@ -18,11 +20,14 @@ use Rattle.disks.proofs.Unique.{strong-unique, strong-multiple}
 use Rattle.disks.proofs.Acute.{pair-own}
 use Rattle.disks.proofs.LiftedProcedure.{mtf}
 use Rattle.disks.proofs.Correct.{mtf-strong}
-use Rattle.disks.proofs.Smallest.{Smallest, lower, smallest-unique, mtf-smallest}
+use Rattle.disks.proofs.LowestTerms.{lowered, Written}
+use Rattle.disks.proofs.StrongSmallest.{strong-smallest}
+use Rattle.disks.proofs.OneWriting.{smallest-same}
+use Rattle.disks.proofs.Bridge.{strong-written}
 
 -- ---- the same disk
 
-pub multiple-from-same : (F G : Lifted) → pos 0 <ℤ F .e → pos 0 <ℤ G .e → F .cx *ℤ G .e ≡ G .cx *ℤ F .e → F .cy *ℤ G .e ≡ G .cy *ℤ F .e → lower F .s *ℤ (G .e *ℤ G .e) ≡ lower G .s *ℤ (F .e *ℤ F .e) → Multiple F G
+pub multiple-from-same : (F G : Lifted) → pos 0 <ℤ F .e → pos 0 <ℤ G .e → F .cx *ℤ G .e ≡ G .cx *ℤ F .e → F .cy *ℤ G .e ≡ G .cy *ℤ F .e → squaredRadius F *ℤ (G .e *ℤ G .e) ≡ squaredRadius G *ℤ (F .e *ℤ F .e) → Multiple F G
 multiple-from-same F G hf hg hx hy hs = record {
   same-x = linear (F .e ∷ F .cx ∷ G .e ∷ G .cx ∷ []) (eqn (negsuc 0) hx) (search poly depth 30) tt;
   same-y = linear (F .e ∷ F .cy ∷ G .e ∷ G .cy ∷ []) (eqn (negsuc 0) hy) (search poly depth 30) tt;
@@ -30,14 +35,32 @@ multiple-from-same F G hf hg hx hy hs = record {
       (eqn (pos 1) hs & eqn (negℤ (F .cx *ℤ G .e +ℤ G .cx *ℤ F .e)) hx & eqn (negℤ (F .cy *ℤ G .e +ℤ G .cy *ℤ F .e)) hy) (search poly depth 30) tt));
 }
 
-pub smallest-strong : {q : Point} {Q : List Point} (F : Lifted) → Smallest (q ∷ Q) (lower F) → StronglyMinimal (q ∷ Q) [] F
-smallest-strong {q} {Q} F m = strong-multiple (mtf-strong q Q) (m .proper) (multiple-from-same G F (mtf-strong q Q .feasible .proper) (m .proper) (u .0) (u .1) (u .2))
+-- two disks with one writing
+pub written-multiple : {F G : Lifted} {d : Disk} → pos 0 <ℤ F .e → pos 0 <ℤ G .e → Written F d → Written G d → Multiple F G
+written-multiple {F} {G} {d} hf hg v w = multiple-from-same F G hf hg (centre (F .cx) (G .cx) (d .x) (v .x-is) (w .x-is)) (centre (F .cy) (G .cy) (d .y) (v .y-is) (w .y-is))
+    (radius (squaredRadius F) (squaredRadius G) (F .e) (G .e) (pos (v .g)) (pos (w .g)) (pos (d .e)) (pos (d .s)) (v .s-is) (w .s-is) (v .e-is) (w .e-is))
+  where
+    crossed : (X Z E H f g x e : ℤ) → X ≡ f *ℤ x → Z ≡ g *ℤ x → E ≡ f *ℤ e → H ≡ g *ℤ e → X *ℤ H ≡ Z *ℤ E
+    crossed X Z E H f g x e hx hz he hh = linear (X ∷ Z ∷ E ∷ H ∷ f ∷ g ∷ x ∷ e ∷ []) (eqn H hx & eqn (negℤ E) hz & eqn (f *ℤ x) hh & eqn (negℤ (g *ℤ x)) he) (search poly depth 30) tt
+
+    centre : (X Z x : ℤ) → X ≡ pos (v .g) *ℤ x → Z ≡ pos (w .g) *ℤ x → X *ℤ G .e ≡ Z *ℤ F .e
+    centre X Z x hx hz = crossed X Z (F .e) (G .e) (pos (v .g)) (pos (w .g)) x (pos (d .e)) hx hz (v .e-is) (w .e-is)
+
+    radius : (S Z E H f g e s : ℤ) → S ≡ (f *ℤ f) *ℤ s → Z ≡ (g *ℤ g) *ℤ s → E ≡ f *ℤ e → H ≡ g *ℤ e → S *ℤ (H *ℤ H) ≡ Z *ℤ (E *ℤ E)
+    radius S Z E H f g e s hs hz he hh = linear (S ∷ Z ∷ E ∷ H ∷ f ∷ g ∷ e ∷ s ∷ [])
+        (eqn (H *ℤ H) hs & eqn (negℤ (E *ℤ E)) hz & eqn (((f *ℤ f) *ℤ s) *ℤ (H +ℤ g *ℤ e)) hh & eqn (negℤ (((g *ℤ g) *ℤ s) *ℤ (E +ℤ f *ℤ e))) he) (search poly depth 30) tt
+
+pub smallest-strong : {q : Point} {Q : List Point} {d : Disk} (F : Lifted) → pos 0 <ℤ F .e → Written F d → Smallest (q ∷ Q) d → StronglyMinimal (q ∷ Q) [] F
+smallest-strong {q} {Q} {d} F hf w m = strong-multiple strong hf (written-multiple (strong .feasible .proper) hf (subst (Written G) (sym same) (strong-written strong)) w)
   where
     G : Lifted
     G = mtf (q ∷ Q) .disk
 
-    u : (G .cx *ℤ F .e ≡ F .cx *ℤ G .e) × (G .cy *ℤ F .e ≡ F .cy *ℤ G .e) × (lower G .s *ℤ (F .e *ℤ F .e) ≡ lower F .s *ℤ (G .e *ℤ G .e))
-    u = smallest-unique (same-refl (q ∷ Q)) (mtf-smallest q Q) m
+    strong : StronglyMinimal (q ∷ Q) [] G
+    strong = mtf-strong q Q
+
+    same : d ≡ lowered G
+    same = smallest-same (same-refl (q ∷ Q)) (same-refl []) m (strong-smallest strong (strong-written strong))
 
 -- ---- one point
 

@@ -1,7 +1,6 @@
 -- The disk through three points. Assumes nothing.
 --     turn a b c             twice the area of the triangle, with a sign
 --     circle, tripleDisk     the form that vanishes at three points; the same with its sign turned where E would be negative
---     Different              no two points of a list are equal
 -- Proved: every form that vanishes at the three is a multiple of `circle` (`circle-only`); three different points that some disk has on its rim are
 -- not in a row (`not-in-row`); so `tripleDisk` is strongly minimal for whatever such a disk holds (`triple-strong`).
 use mathlib.Core.Path.{_≡_, refl, sym, _∙_, ap}
@@ -16,16 +15,17 @@ use Rattle.integers.specs.Abs.{zero-product}
 use Rattle.integers.specs.Ring.{ring, poly, linear, eqn, _&_}
 use Rattle.integers.specs.Order.{≤-of-eq, positive, lt, nn, <-≤-clash, Compared, less, same, more, compared, sum-squares-zero}
 use Rattle.geometry.specs.declared.Point.{Point}
+pub use Rattle.disks.specs.Smallest.{Different}
 use Rattle.disks.proofs.Lifted.{Lifted, value}
 use Rattle.disks.proofs.Minimal.{In, none-of, also, Feasible, StronglyMinimal}
 use Rattle.disks.proofs.Base.{Multiple, multiple-value, multiple-no-gap, holds-by, positive-not-zero, point-path}
 
 -- ---- the form
 
-abbrev ux : Point → Point → ℤ
+abbrev pub ux : Point → Point → ℤ
 ux a b = b .x -ℤ a .x
 
-abbrev uy : Point → Point → ℤ
+abbrev pub uy : Point → Point → ℤ
 uy a b = b .y -ℤ a .y
 
 abbrev pub norm : ℤ → ℤ → ℤ
@@ -36,10 +36,10 @@ abbrev pub turn : Point → Point → Point → ℤ
 turn a b c = (b .x -ℤ a .x) *ℤ (c .y -ℤ a .y) -ℤ (b .y -ℤ a .y) *ℤ (c .x -ℤ a .x)
 
 -- relative to the first point, twice its turn away
-abbrev gx : Point → Point → Point → ℤ
+abbrev pub gx : Point → Point → Point → ℤ
 gx a b c = norm (ux a b) (uy a b) *ℤ uy a c -ℤ norm (ux a c) (uy a c) *ℤ uy a b
 
-abbrev gy : Point → Point → Point → ℤ
+abbrev pub gy : Point → Point → Point → ℤ
 gy a b c = norm (ux a c) (uy a c) *ℤ ux a b -ℤ norm (ux a b) (uy a b) *ℤ ux a c
 
 -- the form that vanishes at the three: a disk if they turn left
@@ -123,10 +123,6 @@ turned-proper F n = go (ltZ (F .e) (pos 0)) (λ t. record { lt = t }) (λ t. ltZ
     go false f g (more h) = h
 
 -- ---- three different points that some disk has on its rim are not in a row
-
-abbrev pub Different : List Point → Type 0
-Different [] = Unit {0}
-Different (p ∷ R) = (In p R → ⊥) × Different R
 
 row-product : (ux uy vx vy gx gy e : ℤ) → e *ℤ (ux *ℤ ux +ℤ uy *ℤ uy) ≡ pos 2 *ℤ (gx *ℤ ux +ℤ gy *ℤ uy) → e *ℤ (vx *ℤ vx +ℤ vy *ℤ vy) ≡ pos 2 *ℤ (gx *ℤ vx +ℤ gy *ℤ vy)
     → ux *ℤ vy -ℤ uy *ℤ vx ≡ pos 0 → e *ℤ ((vx *ℤ vx +ℤ vy *ℤ vy) *ℤ (ux *ℤ (ux -ℤ vx) +ℤ uy *ℤ (uy -ℤ vy))) ≡ pos 0

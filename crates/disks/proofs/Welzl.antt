@@ -1,29 +1,55 @@
--- What the move-to-front procedure does on a list of at least one point, all in one place. Assumes nothing.
---     Welzl L s      s, the procedure's disk, count and list on L, meets demands 2 and 3 for the list L
--- Proved: `welzl`, it does; `same-points`, two lists with the same points have the same disk.
-use mathlib.Core.Path.{_≡_}
-use mathlib.Core.List.{List, _∷_, List·Permᴰ}
-use Prim.Native.Nat.{_+_, _*_, _≤_}
-use lib.IntN.{_*ℤ_}
+-- Welzl's theorem: what the procedure of specs/ gives (000; demands 2 and 3).
+--
+--   mtf-disk, mtf-smallest : with R fixed, at most three points and all different, and some rational disk that fits (P, R), the procedure
+--                            ends on a disk, the smallest for (P, R)
+--   smallest               : from no point fixed, for every list of at least one point
+--   disk-same              : lists with the same points have the same disk
+--   tests-most             : the tests are at most (n³ + 5n)/6
+--   order-permuted         : the list left has the same points, each as often as before
+use mathlib.Core.Path.{_≡_, refl, sym, _∙_, ap, subst}
+use mathlib.Core.List.{List, [], _∷_, List·Memᴰ·head, List·Memᴰ·not-nil, List·Permᴰ}
+use Prim.Native.Nat.{ℕ, _+_, _-_, _*_, _≤_}
+use native.Mathlib.Omega.{arith}
 use lib.ListN.{length}
 use Rattle.geometry.specs.declared.Point.{Point}
-use Rattle.disks.proofs.Minimal.{Same}
-use Rattle.disks.proofs.LiftedProcedure.{State, mtf}
-use Rattle.disks.proofs.Correct.{mtf-ran, mtf-strong}
+use Rattle.geometry.specs.declared.Disk.{Disk}
+use Rattle.disks.specs.Smallest.{Same, Different, RationalDisk, Fits, SmallestWith, Smallest}
+use Rattle.disks.specs.Procedure.{Cover, disk, State, mtf, diskIn, diskOf, testsOf, orderOf}
+use Rattle.disks.proofs.Minimal.{same-refl, StronglyMinimal}
+use Rattle.disks.proofs.LiftedProcedure as L
+use Rattle.disks.proofs.Correct.{run-strong, mtf-ran, mtf-strong}
 use Rattle.disks.proofs.Count.{mtf-count}
-use Rattle.disks.proofs.Smallest.{Disk, Smallest, lower, mtf-smallest, smallest-unique}
-use Rattle.disks.proofs.Support.{Supported, support}
+use Rattle.disks.proofs.LowestTerms.{lowered}
+use Rattle.disks.proofs.Bridge.{cover-disk, strong-written, run-image, diskOf-lowered, testsOf-count, orderOf-left}
+use Rattle.disks.proofs.StrongSmallest.{lift, lift-feasible, strong-smallest}
+use Rattle.disks.proofs.OneWriting.{smallest-same}
 
-pub record Welzl (L : List Point) (s : State) : Type 0 where
-  pub smallest : Smallest L (lower (s .disk))
-  pub permuted : List·Permᴰ (s .left) L
-  pub few-tests : 6 * s .count ≤ length L * length L * length L + 5 * length L
-  pub supported : Supported L (s .disk)
+module _ (R P : List Point) (most : length R ≤ 3) (different : Different R) (some : 1 ≤ length P + length R) (c : RationalDisk) (fits : Fits c P R) where
+  strong : StronglyMinimal P R (L.run R P .disk)
+  strong = run-strong R P (lift c) most some different (lift-feasible fits)
 
-pub welzl : (p : Point) (P : List Point) → Welzl (p ∷ P) (mtf (p ∷ P))
-welzl p P = record { smallest = mtf-smallest p P; permuted = mtf-ran (p ∷ P) .left-permuted; few-tests = mtf-count (p ∷ P); supported = support (mtf-strong p P) }
+  cover-is : mtf R P .cover ≡ disk (lowered (L.run R P .disk))
+  cover-is = ap (λ (s : State). s .cover) (run-image (3 - length R) R P (lift c) (lift-feasible fits) different (omega arith)) ∙ cover-disk (L.run R P .disk) (strong .feasible .proper)
 
--- however often and in whatever order
-pub same-points : (p : Point) (P : List Point) (q : Point) (Q : List Point) → Same (p ∷ P) (q ∷ Q) → (D C : Disk) → D ≡ lower (mtf (p ∷ P) .disk) → C ≡ lower (mtf (q ∷ Q) .disk)
-    → (D .x *ℤ C .e ≡ C .x *ℤ D .e) × (D .y *ℤ C .e ≡ C .y *ℤ D .e) × (D .s *ℤ (C .e *ℤ C .e) ≡ C .s *ℤ (D .e *ℤ D .e))
-same-points p P q Q s D C d c = rw (d, c) (smallest-unique s (mtf-smallest p P) (mtf-smallest q Q))
+  pub mtf-disk : mtf R P .cover ≡ disk (diskIn (mtf R P .cover))
+  mtf-disk = cover-is ∙ ap (λ (k : Cover). disk (diskIn k)) (sym cover-is)
+
+  pub mtf-smallest : SmallestWith P R (diskIn (mtf R P .cover))
+  mtf-smallest = subst (λ (k : Cover). SmallestWith P R (diskIn k)) (sym cover-is) (strong-smallest strong (strong-written strong))
+
+-- ---- from no point fixed
+
+pub smallest : (p : Point) (P : List Point) → Smallest (p ∷ P) (diskOf (p ∷ P))
+smallest p P = subst (Smallest (p ∷ P)) (sym (diskOf-lowered p P)) (strong-smallest (mtf-strong p P) (strong-written (mtf-strong p P)))
+
+pub disk-same : (P Q : List Point) → Same P Q → diskOf P ≡ diskOf Q
+disk-same [] [] s = refl
+disk-same [] (q ∷ Q) s = absurd (List·Memᴰ·not-nil (s .from q (List·Memᴰ·head refl)))
+disk-same (p ∷ P) [] s = absurd (List·Memᴰ·not-nil (s .to p (List·Memᴰ·head refl)))
+disk-same (p ∷ P) (q ∷ Q) s = smallest-same s (same-refl []) (smallest p P) (smallest q Q)
+
+pub tests-most : (P : List Point) → 6 * testsOf P ≤ length P * length P * length P + 5 * length P
+tests-most P = subst (λ (n : ℕ). 6 * n ≤ length P * length P * length P + 5 * length P) (sym (testsOf-count P)) (mtf-count P)
+
+pub order-permuted : (P : List Point) → List·Permᴰ (orderOf P) P
+order-permuted P = subst (λ (l : List Point). List·Permᴰ l P) (sym (orderOf-left P)) (mtf-ran P .left-permuted)

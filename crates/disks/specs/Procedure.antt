@@ -14,9 +14,9 @@ use mathlib.Core.Path.{_≡_, refl, _∙_}
 use mathlib.Core.Bool.{Bool, true, false, not}
 use mathlib.Core.List.{List, [], _∷_, _++_}
 use Prim.Native.Nat.{ℕ, zero, suc, _+_, _-_, _*_, _/_}
-use lib.IntN.{ℤ, pos, negℤ, natAbs, _+ℤ_, _-ℤ_, _*ℤ_}
+use lib.IntN.{ℤ, pos, negsuc, negℤ, natAbs, _+ℤ_, _-ℤ_, _*ℤ_}
 use lib.ListN.{length}
-use lib.Signed.{ltZ, quotZ}
+use lib.Signed.{quotZ}
 use Rattle.integers.specs.Gcd.{gcd}
 use Rattle.geometry.specs.declared.Point.{Point}
 use Rattle.geometry.specs.declared.Disk.{Disk}
@@ -50,11 +50,8 @@ diameterDisk a b = lowestTerms (a .x +ℤ b .x) (a .y +ℤ b .y) 2 (natAbs (norm
 
 -- z, or −z where w is negative
 unfoldable pub turnedBy : ℤ → ℤ → ℤ
-turnedBy w z = pick (ltZ w (pos 0))
-  where
-    pick : Bool → ℤ
-    pick true = negℤ z
-    pick false = z
+turnedBy (pos n) z = z
+turnedBy (negsuc n) z = negℤ z
 
 -- the circle through a, a + u and a + v: E = 2|w| with w = u × v, and centre a + (gx, gy)/E
 unfoldable pub circle : Point → Point → Point → Disk

@@ -8,4 +8,6 @@ pub mod Linear
 pub mod Bounds
 pub mod Between
 pub mod Gcd
+pub mod LowestTerms
+pub mod Reduced
 pub mod Examples

@@ -1,7 +1,17 @@
-// Whole numbers: the greatest common divisor, and a test of range.
+// Whole numbers: the greatest common divisor, a triple in lowest terms, and a test of range.
 ghost use mathlib.Core.Path.{_≡_};
+ghost use Prim.Native.Nat.{_<_, _^_};
+ghost use lib.IntN.{pos, natAbs};
+ghost use lib.Signed.{quotZ};
 ghost use Rattle.integers.specs.Between.{between};
 ghost use Rattle.integers.specs.Gcd.{gcd};
+ghost use Rattle.integers.specs.LowestTerms.{lowest};
+
+pub struct Triple {
+    pub x: i64,
+    pub y: i64,
+    pub e: u64,
+}
 
 // The greatest common divisor of a and b, by Euclid.
 pub fn gcd_of(a: u64, b: u64) -> u64
@@ -15,6 +25,40 @@ pub fn gcd_of(a: u64, b: u64) -> u64
         n = rest;
     }
     m
+}
+
+// |x|. The least i64 has no negation, so its complement is cast.
+pub fn magnitude(x: i64) -> u64
+    ensures { λ r. ⌜ r ≡ natAbs x ⌝ }
+{
+    if x < 0 {
+        ((-1 - x) as u64) + 1
+    } else {
+        x as u64
+    }
+}
+
+// x / g, toward 0.
+fn divided(x: i64, g: u64) -> i64
+    requires { ⌜ 0 < g ⌝ }
+    requires { ⌜ g < 2 ^ 63 ⌝ }
+    ensures { λ r. ⌜ r ≡ quotZ x (pos g) ⌝ }
+{
+    x / (g as i64)
+}
+
+// x, y and e divided by their greatest common divisor: nothing above 1 divides all three numbers of the answer.
+pub fn lowest_terms(x: i64, y: i64, e: u64) -> Triple
+    requires { ⌜ 0 < e ⌝ }
+    requires { ⌜ e < 2 ^ 63 ⌝ }
+    ensures { λ t. ⌜ t ≡ lowest x y e ⌝ }
+{
+    let g = gcd_of(gcd_of(magnitude(x), magnitude(y)), e);
+    Triple {
+        x: divided(x, g),
+        y: divided(y, g),
+        e: e / g,
+    }
 }
 
 // lo <= z <= hi

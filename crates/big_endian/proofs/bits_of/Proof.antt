@@ -1,47 +1,33 @@
 -- `big_endian::bits_of` meets its contract. With h half the numbers of n bytes, a z below 0 has the bits h + h - 1 - (-1 - z).
 use mathlib.Core.Path.{_≡_, refl, sym, ap, ap₂, _∙_, subst}
 use mathlib.Core.Bool.{true, false}
-use Prim.Native.Nat.{ℕ, suc, _+_, _-_, _*_, _^_, _≤_, _<_}
+use Prim.Native.Nat.{ℕ, suc, _+_, _-_, _*_, _≤_, _<_}
 use native.Mathlib.Omega.{arith}
 use borrow.Author.Needs.{needs}
-use lib.Dec.{T}
 use lib.Pow.{pow-pos}
 use lib.IntN.{ℤ, negsuc, _-ℤ_, natAbs}
-use lib.Signed.{mag, nonNeg}
+use lib.Signed.{mag}
 use mir.Syntax.{w64}
-use mir.Val.{Fits, SFits, toZ, ofZ}
+use mir.Val.{toZ, ofZ}
 use mir.Facts.{toZ-ofZ}
 use Rattle.big_endian.specs.Twos.{half, twos}
 use Rattle.big_endian.proofs.TwosLaws.{half-le, half-pos}
-use Rattle.big_endian.proofs.Complement.{flip, minus-fits, minus-back, Side, under, from, sided}
+use Rattle.integers.proofs.Complement.{complement, minus-fits, minus-back, Side, under, from, sided, Castable, castable, complement-castable}
 use Rattle.big_endian.proofs.bits_of.Statement.{statement}
 use Rattle.big_endian.proofs.bits_of.Tie as tie
 
--- what a cast of z to a u64 asks
-abbrev Castable : ℤ → Type 0
-Castable z = T (nonNeg z) × Fits w64 (natAbs z)
-
-full : {n : ℕ} → n < 2 ^ 63 → Fits w64 n
-full h = record { fits = omega arith }
-
 -- ---- of a z below 0
-flip-castable : (z : ℤ) → Side z true → SFits w64 z → Castable (flip z)
-flip-castable _ (under m) f = (tt, full (f .sfits))
+complement-below : (z : ℤ) (h : ℕ) → Side z true → mag z < h → natAbs (complement z) ≤ h - 1 + h
+complement-below _ h (under m) l = omega arith
 
-flip-below : (z : ℤ) (h : ℕ) → Side z true → mag z < h → natAbs (flip z) ≤ h - 1 + h
-flip-below _ h (under m) l = omega arith
-
-flip-bits : (n : ℕ) (z : ℤ) → Side z true → half n - 1 + half n - natAbs (flip z) ≡ twos n z
+complement-bits : (n : ℕ) (z : ℤ) → Side z true → half n - 1 + half n - natAbs (complement z) ≡ twos n z
 unfolding twos
-flip-bits n _ (under m) = turned (half n) m (pow-pos (8 * n - 1))
+complement-bits n _ (under m) = turned (half n) m (pow-pos (8 * n - 1))
   where
     turned : (h m : ℕ) → 0 < h → h - 1 + h - m ≡ h + h - suc m
     turned h m p = omega arith
 
 -- ---- of a z from 0 on
-castable : (z : ℤ) → Side z false → SFits w64 z → Castable z
-castable _ (from m) f = (tt, full (f .sfits))
-
 bits : (n : ℕ) (z : ℤ) → Side z false → natAbs z ≡ twos n z
 unfolding twos
 bits n _ (from m) = refl
@@ -60,20 +46,20 @@ module _ (c : tie.After-half-of) where
   below-zero : Side (c .before .before .args .z) true
   below-zero = sided (c .before .before .fits .z) (c .before .if1 .taken)
 
-  complement : toZ w64 (ofZ w64 (negsuc 0 -ℤ toZ w64 (ofZ w64 (c .before .before .args .z)))) ≡ flip (c .before .before .args .z)
-  complement = minus-back _ (c .before .before .args .z) (toZ-ofZ (c .before .before .fits .z)) (c .before .before .fits .z)
+  complemented : toZ w64 (ofZ w64 (negsuc 0 -ℤ toZ w64 (ofZ w64 (c .before .before .args .z)))) ≡ complement (c .before .before .args .z)
+  complemented = minus-back _ (c .before .before .args .z) (toZ-ofZ (c .before .before .fits .z)) (c .before .before .fits .z)
 
 sub-result-2 : tie.Need-sub-result-2
 sub-result-2 c = minus-fits _ (c .before .before .args .z) (toZ-ofZ (c .before .before .fits .z)) (c .before .before .fits .z)
 
 cast-result : tie.Need-cast-result
-cast-result c = subst Castable (sym (complement c)) (flip-castable (c .before .before .args .z) (below-zero c) (c .before .before .fits .z))
+cast-result c = subst Castable (sym (complemented c)) (complement-castable (c .before .before .args .z) (below-zero c) (c .before .before .fits .z))
 
 sub-result-3 : tie.Need-sub-result-3
 sub-result-3 c =
     let h = c .half-of .result in
     let l : mag (c .before .before .args .z) < h = subst (λ (k : ℕ). mag (c .before .before .args .z) < k) (sym (c .half-of .ensures)) (c .before .before .pre .1) in
-    subst (λ (y : ℤ). natAbs y ≤ h - 1 + h) (sym (complement c)) (flip-below (c .before .before .args .z) h (below-zero c) l)
+    subst (λ (y : ℤ). natAbs y ≤ h - 1 + h) (sym (complemented c)) (complement-below (c .before .before .args .z) h (below-zero c) l)
 
 cast-result-2 : tie.Need-cast-result-2
 cast-result-2 c =
@@ -84,8 +70,8 @@ cast-result-2 c =
 returns : tie.Need-returns
 returns c =
     let n = c .before .before .args .n in
-    ap₂ (λ (h : ℕ) (y : ℤ). h - 1 + h - natAbs y) (c .half-of .ensures) (complement c)
-    ∙ flip-bits n (c .before .before .args .z) (below-zero c)
+    ap₂ (λ (h : ℕ) (y : ℤ). h - 1 + h - natAbs y) (c .half-of .ensures) (complemented c)
+    ∙ complement-bits n (c .before .before .args .z) (below-zero c)
 
 returns-2 : tie.Need-returns-2
 returns-2 c =

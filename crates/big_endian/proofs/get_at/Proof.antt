@@ -42,7 +42,7 @@ module _ (c : tie.After-wide Inv-loop μ-loop) where
   sum-lt : head .loop .sum * 256 + c .wide .result < 2 ^ (8 * (start .args .n - (head .loop .left - 1)))
   sum-lt =
       more (start .args .n) (head .loop .left) (head .loop .sum) (c .wide .result) (c .before .before .loop-test .taken) (head .loop .inv .1) (head .loop .inv .2)
-      (omega (arith, c .wide .ensures, c .before .shared-slice-known2 .given (head .loop .i)))
+      (c .wide .ensures .1)
 
 loop-holds : tie.Need-loop-holds Inv-loop μ-loop
 loop-holds c = let n = c .before .args .n in (refl, le-refl n, pow-pos (8 * (n - n)), refl)
@@ -85,7 +85,7 @@ loop-again c =
       omega arith,
       omega arith,
       sum-lt c,
-      ap (λ (b : ℕ). get (left - 1) (sum * 256 + b) (i + 1) buf) (c .wide .ensures)
+      ap (λ (b : ℕ). get (left - 1) (sum * 256 + b) (i + 1) buf) (c .wide .ensures .0)
           ∙ get-one left sum i buf (c .before .before .loop-test .taken)
           ∙ head c .loop .inv .3,
     )

@@ -2,6 +2,7 @@
 --
 use mathlib.Core.Path.{_≡_, refl, sym, ap, _∙_}
 use Prim.Native.Nat.{ℕ, _+_, _-_, _*_, _/_, _^_, _≤_}
+use native.Mathlib.Nat.{le-refl}
 use native.Mathlib.Omega.{arith}
 use lib.ListN.{length, set, length-set}
 use lib.Bits.{and-mask, mask-lt}
@@ -14,13 +15,13 @@ use Rattle.big_endian.proofs.put_at.Lts as lts
 
 abbrev Inv-loop : tie.InvT-loop
 Inv-loop buf₀ at n v left₀ i₀ buf left i =
-    (i + left ≡ at + n) × (left ≤ 8) × (length buf ≡ length buf₀) × (put left v i buf ≡ put n v at buf₀)
+    (i + left ≡ at + n) × (left ≤ n) × (length buf ≡ length buf₀) × (put left v i buf ≡ put n v at buf₀)
 
 abbrev μ-loop : tie.MeasureT-loop
 μ-loop buf₀ at n v left₀ i₀ buf left i = left
 
 loop-holds : tie.Need-loop-holds Inv-loop μ-loop
-loop-holds c = (refl, c .pre .0, refl, refl)
+loop-holds c = (refl, le-refl (c .args .n), refl, refl)
 
 sub-left : tie.Need-sub-left Inv-loop μ-loop
 sub-left c = omega arith
