@@ -1,1 +1,2 @@
 pub mod Coordinates
+pub mod PointOrder

@@ -4,6 +4,7 @@ ghost use Prim.Native.Nat.{_+_, _*_, _≤_};
 ghost use lib.ListN.{length};
 ghost use Rattle.geometry.specs.Plane.{inEmBox};
 ghost use Rattle.geometry.specs.Points.{pointAt};
+ghost use Rattle.geometry.specs.Order.{before};
 
 // 01: a corner.
 pub struct Point {
@@ -41,6 +42,19 @@ pub fn in_em_box(p: Point) -> bool
         return integers::is_between(-250, wide(p.y), 750);
     }
     false
+}
+
+// Whether p comes before q in rising order.
+pub fn is_before(p: Point, q: Point) -> bool
+    ensures { λ r. ⌜ r ≡ before p q ⌝ }
+{
+    if p.x < q.x {
+        return true;
+    }
+    if q.x < p.x {
+        return false;
+    }
+    p.y < q.y
 }
 
 // Point i of a list of numbers, x and y by turns.

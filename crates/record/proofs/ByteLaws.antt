@@ -1,0 +1,83 @@
+-- The lengths of a record's parts, and the parts stored one behind another.
+--
+--   diskBytes-length, pointBytes-length, pointsBytes-length : 32, 4, and 4 for each point
+--   members-counted       : a support set has one to three points
+--   madeThree-length      : one to three points are made three
+--   recordBytes-length    : a record has `recordLength` bytes
+--   three-stored          : three points stored one by one are stored together
+--   record-stored         : the disk and the points stored are the record in front, and the rest as it was
+use mathlib.Core.Path.{_≡_, refl, sym, ap, ap₂, _∙_, subst}
+use mathlib.Core.Bool.{true, true≢false}
+use mathlib.Core.List.{List, [], _∷_, _++_, append-nil}
+use Prim.Native.Nat.{ℕ, suc, _+_, _*_, _≤_}
+use native.Mathlib.Omega.{arith}
+use borrow.Author.Tests.{leb-true}
+use lib.Dec.{leb}
+use lib.ListN.{length, length-append, drop}
+use lib.Seq.{sets, sets-eq}
+use Rattle.big_endian.proofs.ByteLists.{bytesOf-length}
+use Rattle.integers.specs.Between.{rest}
+use Rattle.geometry.specs.declared.Point.{Point}
+use Rattle.geometry.specs.declared.Disk.{Disk}
+use Rattle.geometry.specs.declared.SupportSet.{SupportSet}
+use Rattle.geometry.specs.declared.SupportSet.the-variants.{One, Two, Three}
+use Rattle.geometry.specs.Plane.{members}
+use Rattle.record.specs.Valid.{oneToThree}
+use Rattle.record.specs.Bytes.{recordLength, diskBytes, pointBytes, pointsBytes, madeThree, recordBytes}
+use Rattle.record.proofs.Stores.{sets-append}
+
+pub diskBytes-length : (d : Disk) → length (diskBytes d) ≡ 32
+diskBytes-length d = simp (length-append, bytesOf-length)
+
+pub pointBytes-length : (p : Point) → length (pointBytes p) ≡ 4
+pointBytes-length p = simp (length-append, bytesOf-length)
+
+pub pointsBytes-length : (ps : List Point) → length (pointsBytes ps) ≡ 4 * length ps
+pointsBytes-length [] = refl
+pointsBytes-length (p ∷ ps) =
+    length-append (pointBytes p) (pointsBytes ps) ∙ ap₂ _+_ (pointBytes-length p) (pointsBytes-length ps) ∙ four (length ps)
+  where
+    four : (n : ℕ) → 4 + 4 * n ≡ 4 * suc n
+    four n = omega arith
+
+pub members-counted : (t : SupportSet) → oneToThree (members t) ≡ true
+members-counted (One a) = refl
+members-counted (Two a b) = refl
+members-counted (Three a b c) = refl
+
+pub madeThree-length : (ps : List Point) → oneToThree ps ≡ true → length (madeThree ps) ≡ 3
+madeThree-length [] h = absurd (true≢false (sym h))
+madeThree-length (a ∷ []) h = refl
+madeThree-length (a ∷ b ∷ []) h = refl
+madeThree-length (a ∷ b ∷ c ∷ []) h = refl
+madeThree-length (a ∷ b ∷ c ∷ p ∷ ps) h = absurd (too-many (length ps) (leb-true (suc (suc (suc (suc (length ps))))) 3 (rest (leb 1 (suc (suc (suc (suc (length ps)))))) (leb (suc (suc (suc (suc (length ps))))) 3) h)))
+  where
+    too-many : (n : ℕ) → suc (suc (suc (suc n))) ≤ 3 → ⊥
+    too-many n h = omega arith
+
+pub recordBytes-length : (d : Disk) (ps : List Point) → oneToThree ps ≡ true → length (recordBytes d ps) ≡ recordLength
+unfolding recordBytes
+recordBytes-length d ps h =
+    length-append (diskBytes d) (pointsBytes (madeThree ps))
+    ∙ ap₂ _+_ (diskBytes-length d) (pointsBytes-length (madeThree ps) ∙ ap (λ (n : ℕ). 4 * n) (madeThree-length ps h))
+
+-- ---- stored in a buffer
+
+pub three-stored : (l : List ℕ) (a b c : Point)
+    → sets (sets (sets l 32 (pointBytes a)) 36 (pointBytes b)) 40 (pointBytes c) ≡ sets l 32 (pointsBytes (a ∷ b ∷ c ∷ []))
+three-stored l a b c =
+    let p = pointBytes a in
+    let q = pointBytes b in
+    let r = pointBytes c in
+    ap (sets (sets (sets l 32 p) 36 q) 40) (sym (append-nil r))
+    ∙ sym (sets-append (sets l 32 p) 36 q (r ++ []) 4 (pointBytes-length b))
+    ∙ sym (sets-append l 32 p (q ++ (r ++ [])) 4 (pointBytes-length a))
+
+pub record-stored : (l : List ℕ) (d : Disk) (ps : List Point) → oneToThree ps ≡ true → recordLength ≤ length l
+    → sets (sets l 0 (diskBytes d)) 32 (pointsBytes (madeThree ps)) ≡ recordBytes d ps ++ drop recordLength l
+unfolding recordBytes
+record-stored l d ps h room =
+    let e : length (recordBytes d ps) ≡ recordLength = recordBytes-length d ps h in
+    sym (sets-append l 0 (diskBytes d) (pointsBytes (madeThree ps)) 32 (diskBytes-length d))
+    ∙ sets-eq (recordBytes d ps) l 0 (subst (λ (n : ℕ). 0 + n ≤ length l) (sym e) room)
+    ∙ ap (λ (n : ℕ). recordBytes d ps ++ drop (0 + n) l) e

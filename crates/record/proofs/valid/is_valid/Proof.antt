@@ -1,0 +1,24 @@
+-- `record::is_valid` meets its contract: the disk's rules, then the points'.
+use mathlib.Core.Path.{sym, _∙_}
+use borrow.Author.Needs.{needs}
+use Rattle.integers.specs.Between.{stop, pass}
+use Rattle.record.specs.Valid.{valid}
+use Rattle.record.proofs.valid.is_valid.Statement.{statement}
+use Rattle.record.proofs.valid.is_valid.Tie as tie
+
+disk-is-valid-requires : tie.Need-disk-is-valid-requires
+disk-is-valid-requires c κs = search needs
+
+points-are-valid-requires : tie.Need-points-are-valid-requires
+points-are-valid-requires c κs = search needs
+
+returns : tie.Need-returns
+unfolding valid
+returns c = pass (sym (c .before .before .disk-is-valid .ensures) ∙ c .before .if1 .taken) (c .points-are-valid .ensures)
+
+returns-2 : tie.Need-returns-2
+unfolding valid
+returns-2 c = stop _ (sym (c .before .disk-is-valid .ensures) ∙ c .if1 .left)
+
+pub is-valid-spec : {M : Type 1} → statement M
+is-valid-spec = tie.close (tie.spec disk-is-valid-requires points-are-valid-requires returns returns-2)
