@@ -1,0 +1,11 @@
+// The public calls for C and Rust programs, over numbers, structs of numbers and slices (include/volkhidar.h). Each promises the
+// definition of the call that it exports.
+mod answer;
+mod radius;
+mod sheet_part;
+mod writing;
+
+pub use answer::GlyphAnswer;
+pub use answer::RadiusAnswer;
+pub use answer::RecordAnswer;
+pub use answer::Support;
