@@ -3,6 +3,7 @@
 --   Outcome A          == given a, or refused n with document 01's number n
 --   numberOf r         == the number of the refusal r
 --   refuseIf b n rest  == refused n where the test b holds, else rest: a row of these is a row of checks in their order
+--   andThen o f        == f of the value that o gives, or o's refusal: one call after another
 use Prim.Native.Nat.{ℕ}
 use mathlib.Core.Bool.{Bool, true, false}
 use Rattle.answers.specs.declared.Refusal.{Refusal}
@@ -27,3 +28,7 @@ numberOf NoGlyph = 10
 abbrev pub refuseIf : {A : Type 0} → Bool → ℕ → Outcome A → Outcome A
 refuseIf true n rest = refused n
 refuseIf false n rest = rest
+
+abbrev pub andThen : {A B : Type 0} → Outcome A → (A → Outcome B) → Outcome B
+andThen (given a) f = f a
+andThen (refused n) f = refused n

@@ -1,9 +1,11 @@
--- Which pairs and triples are support sets: what the engine's search tests. Assumes nothing.
---     corner a b c      (b - a)·(c - a): positive where the angle at a is acute
---     Kind a b c F      F is the disk over one of the three sides; or the three are on its rim and all angles are acute
--- Proved: the disk over b, c is strongly minimal for b and c (`pair-own`), and so for a too where the angle at a is not acute (`blunt`); a strongly
--- minimal disk of three points is of one of the two kinds (`kind`); three rim points with acute angles have the disk as their own
--- (`acute-strong`), and three arms around the centre make acute angles (`around-acute`).
+-- Which pairs and triples are support sets: what a search can test.
+--
+--   corner a b c      == (b − a)·(c − a): positive where the angle at a is acute
+--   Kind a b c F      == F is the disk over one of the three sides; or the three are on its boundary and all angles are acute
+--   pair-own, blunt   : the disk over b, c is strongly minimal for b and c, and so for a too where the angle at a is not acute
+--   kind              : a strongly minimal disk of three points is of one of the two kinds
+--   acute-strong      : three boundary points with acute angles have the disk as their own
+--   around-acute      : three arms around the centre make acute angles
 use mathlib.Core.Path.{_≡_, refl, sym, _∙_, ap, subst}
 use mathlib.Core.Logic.{_⊎_, inl, inr}
 use mathlib.Core.List.{[], _∷_, List·Memᴰ·head, List·Memᴰ·tail, List·Permᴰ, List·Permᴰ·cons, List·Permᴰ·swap, List·Permᴰ·trans}
@@ -18,7 +20,7 @@ use Rattle.disks.proofs.Base.{Multiple, pairDisk, pair-first, pair-seco
 use Rattle.disks.proofs.Lists.{perm-same}
 use Rattle.disks.proofs.Unique.{strong-unique, leave-out, square-positive}
 use Rattle.disks.proofs.Arms.{dot, cross, flip}
-use Rattle.disks.proofs.Weights.{arm, rim-length, three-strong}
+use Rattle.disks.proofs.Weights.{arm, boundary-length, three-strong}
 
 abbrev pub corner : Point → Point → Point → ℤ
 corner a b c = (b .x -ℤ a .x) *ℤ (c .x -ℤ a .x) +ℤ (b .y -ℤ a .y) *ℤ (c .y -ℤ a .y)
@@ -30,8 +32,14 @@ minus-twice v w h k = nonneg (v ∷ w ∷ []) (nn 2 ⊠ le h ⊞ nn 2 ⊠ le k) 
 
 pub pair-own : (b c : Point) → StronglyMinimal (b ∷ c ∷ []) [] (pairDisk b c)
 pair-own b c = record {
-  feasible = record { proper = positive-two; holds = also Held (≤-of-eq (pair-first b c)) (also Held (≤-of-eq (pair-second b c)) (none-of Held)); rim = none-of (λ p. value (pairDisk b c) p ≡ pos 0) };
-  least = λ G f. subst (λ (z : ℤ). pos 0 ≤ℤ z) (sym (pair-gap b c G)) (minus-twice (value G b) (value G c) (f .holds b (List·Memᴰ·head refl)) (f .holds c (List·Memᴰ·tail (List·Memᴰ·head refl))));
+  feasible = record {
+    proper = positive-two;
+    holds = also Held (≤-of-eq (pair-first b c))
+        (also Held (≤-of-eq (pair-second b c)) (none-of Held));
+    on-boundary = none-of (λ p. value (pairDisk b c) p ≡ pos 0);
+  };
+  least = λ G f. subst (λ (z : ℤ). pos 0 ≤ℤ z) (sym (pair-gap b c G))
+      (minus-twice (value G b) (value G c) (f .holds b (List·Memᴰ·head refl)) (f .holds c (List·Memᴰ·tail (List·Memᴰ·head refl))));
 }
   where
     Held : Point → Type 0
@@ -52,7 +60,8 @@ pub data Kind (a b c : Point) (F : Lifted) : Type 0 where
   side-bc : Multiple F (pairDisk b c) → Kind a b c F
   side-ac : Multiple F (pairDisk a c) → Kind a b c F
   side-ab : Multiple F (pairDisk a b) → Kind a b c F
-  acute : value F a ≡ pos 0 → value F b ≡ pos 0 → value F c ≡ pos 0 → pos 0 <ℤ corner a b c → pos 0 <ℤ corner b a c → pos 0 <ℤ corner c a b → Kind a b c F
+  acute : value F a ≡ pos 0 → value F b ≡ pos 0 → value F c ≡ pos 0 → pos 0 <ℤ corner a b c → pos 0 <ℤ corner b a c → pos 0 <ℤ corner c a b
+      → Kind a b c F
 
 second-first : (a b c : Point) → List·Permᴰ (a ∷ b ∷ c ∷ []) (b ∷ a ∷ c ∷ [])
 second-first a b c = List·Permᴰ·swap refl refl
@@ -61,7 +70,8 @@ third-first : (a b c : Point) → List·Permᴰ (a ∷ b ∷ c ∷ []) (c ∷ a 
 third-first a b c = List·Permᴰ·trans (List·Permᴰ·cons refl (List·Permᴰ·swap refl refl)) (List·Permᴰ·swap refl refl)
 
 pub kind : (a b c : Point) {F : Lifted} → StronglyMinimal (a ∷ b ∷ c ∷ []) [] F → Kind a b c F
-kind a b c {F} m = go (compared (value F a) (pos 0)) (compared (value F b) (pos 0)) (compared (value F c) (pos 0)) (≤-or-< (corner a b c) (pos 0)) (≤-or-< (corner b a c) (pos 0)) (≤-or-< (corner c a b) (pos 0))
+kind a b c {F} m = go (compared (value F a) (pos 0)) (compared (value F b) (pos 0)) (compared (value F c) (pos 0)) (≤-or-< (corner a b c) (pos 0))
+    (≤-or-< (corner b a c) (pos 0)) (≤-or-< (corner c a b) (pos 0))
   where
     m-b : StronglyMinimal (b ∷ a ∷ c ∷ []) [] F
     m-b = strong-same (perm-same (second-first a b c)) m
@@ -69,7 +79,8 @@ kind a b c {F} m = go (compared (value F a) (pos 0)) (compared (value F b) (pos 
     m-c : StronglyMinimal (c ∷ a ∷ b ∷ []) [] F
     m-c = strong-same (perm-same (third-first a b c)) m
 
-    go : Compared (value F a) (pos 0) → Compared (value F b) (pos 0) → Compared (value F c) (pos 0) → (corner a b c ≤ℤ pos 0) ⊎ (pos 0 <ℤ corner a b c) → (corner b a c ≤ℤ pos 0) ⊎ (pos 0 <ℤ corner b a c)
+    go : Compared (value F a) (pos 0) → Compared (value F b) (pos 0) → Compared (value F c) (pos 0)
+        → (corner a b c ≤ℤ pos 0) ⊎ (pos 0 <ℤ corner a b c) → (corner b a c ≤ℤ pos 0) ⊎ (pos 0 <ℤ corner b a c)
         → (corner c a b ≤ℤ pos 0) ⊎ (pos 0 <ℤ corner c a b) → Kind a b c F
     go (less h) vb vc ka kb kc = side-bc (strong-unique (leave-out m h) (pair-own b c))
     go (more h) vb vc ka kb kc = <-≤-clash h (m-b .feasible .holds a (List·Memᴰ·tail (List·Memᴰ·head refl)))
@@ -86,9 +97,11 @@ kind a b c {F} m = go (compared (value F a) (pos 0)) (compared (value F b) (pos 
 
 -- arms of one length: twice the triangle, times a turn of two arms, is the side squared times the corner
 turn-corner : (A B C : Point) (s : ℤ) → dot A A ≡ s → dot B B ≡ s → dot C C ≡ s
-    → (pos 2 *ℤ (cross A B +ℤ cross B C +ℤ cross C A)) *ℤ cross B C ≡ ((C .x -ℤ B .x) *ℤ (C .x -ℤ B .x) +ℤ (C .y -ℤ B .y) *ℤ (C .y -ℤ B .y)) *ℤ corner A B C
+    → (pos 2 *ℤ (cross A B +ℤ cross B C +ℤ cross C A)) *ℤ cross B C
+    ≡ ((C .x -ℤ B .x) *ℤ (C .x -ℤ B .x) +ℤ (C .y -ℤ B .y) *ℤ (C .y -ℤ B .y)) *ℤ corner A B C
 turn-corner A B C s ha hb hc = linear (A .x ∷ A .y ∷ B .x ∷ B .y ∷ C .x ∷ C .y ∷ s ∷ [])
-    (eqn (negℤ (dot B B -ℤ dot B C) -ℤ (dot C C -ℤ dot B C)) ha & eqn ((dot C C -ℤ dot B C) -ℤ (dot C A -ℤ dot A B)) hb & eqn ((dot B B -ℤ dot B C) +ℤ (dot C A -ℤ dot A B)) hc) (search poly depth 30) tt
+    (eqn (negℤ (dot B B -ℤ dot B C) -ℤ (dot C C -ℤ dot B C)) ha & eqn ((dot C C -ℤ dot B C) -ℤ (dot C A -ℤ dot A B)) hb
+    & eqn ((dot B B -ℤ dot B C) +ℤ (dot C A -ℤ dot A B)) hc) (search poly depth 30) tt
 
 arm-corner : (F : Lifted) (a b c : Point) → corner (arm F a) (arm F b) (arm F c) ≡ (F .e *ℤ F .e) *ℤ corner a b c
 arm-corner F a b c = ring (F .e ∷ F .cx ∷ F .cy ∷ a .x ∷ a .y ∷ b .x ∷ b .y ∷ c .x ∷ c .y ∷ []) (search poly depth 30) tt
@@ -128,7 +141,8 @@ corner-from e w x n d k h q hw hx hn = go (≤-or-< k (pos 0))
   where
     go : (k ≤ℤ pos 0) ⊎ (pos 0 <ℤ k) → pos 0 <ℤ k
     go (inr l) = l
-    go (inl l) = clash (e ∷ w ∷ x ∷ n ∷ d ∷ k ∷ []) (nn 2 ⊠ (lt hw ⊠ lt hx ⊞ lt hw ⊞ lt hx) ⊞ nn 1 ⊞ hn ⊠ (sq e ⊠ le l) ⊞ eq (negsuc 0) h ⊞ eq (negℤ n) q) (search poly depth 30) tt
+    go (inl l) = clash (e ∷ w ∷ x ∷ n ∷ d ∷ k ∷ []) (nn 2 ⊠ (lt hw ⊠ lt hx ⊞ lt hw ⊞ lt hx) ⊞ nn 1 ⊞ hn ⊠ (sq e ⊠ le l) ⊞ eq (negsuc 0) h
+        ⊞ eq (negℤ n) q) (search poly depth 30) tt
 
 rotated : (a b c : ℤ) → a +ℤ b +ℤ c ≡ b +ℤ c +ℤ a
 rotated a b c = ring (a ∷ b ∷ c ∷ []) (search poly depth 30) tt
@@ -150,13 +164,15 @@ module _ (F : Lifted) (proper : pos 0 <ℤ F .e) (a b c : Point) (ha : value F a
   side p q = (q .x -ℤ p .x) *ℤ (q .x -ℤ p .x) +ℤ (q .y -ℤ p .y) *ℤ (q .y -ℤ p .y)
 
   at-a : (pos 2 *ℤ area) *ℤ cross B C ≡ side B C *ℤ corner A B C
-  at-a = turn-corner A B C (squaredRadius F) (rim-length F a ha) (rim-length F b hb) (rim-length F c hc)
+  at-a = turn-corner A B C (squaredRadius F) (boundary-length F a ha) (boundary-length F b hb) (boundary-length F c hc)
 
   at-b : (pos 2 *ℤ area) *ℤ cross C A ≡ side C A *ℤ corner B C A
-  at-b = ap (λ (w : ℤ). (pos 2 *ℤ w) *ℤ cross C A) (rotated (cross A B) (cross B C) (cross C A)) ∙ turn-corner B C A (squaredRadius F) (rim-length F b hb) (rim-length F c hc) (rim-length F a ha)
+  at-b = ap (λ (w : ℤ). (pos 2 *ℤ w) *ℤ cross C A) (rotated (cross A B) (cross B C) (cross C A)) ∙ turn-corner B C A (squaredRadius F)
+      (boundary-length F b hb) (boundary-length F c hc) (boundary-length F a ha)
 
   at-c : (pos 2 *ℤ area) *ℤ cross A B ≡ side A B *ℤ corner C A B
-  at-c = ap (λ (w : ℤ). (pos 2 *ℤ w) *ℤ cross A B) (sym (rotated (cross C A) (cross A B) (cross B C))) ∙ turn-corner C A B (squaredRadius F) (rim-length F c hc) (rim-length F a ha) (rim-length F b hb)
+  at-c = ap (λ (w : ℤ). (pos 2 *ℤ w) *ℤ cross A B) (sym (rotated (cross C A) (cross A B) (cross B C))) ∙ turn-corner C A B (squaredRadius F)
+      (boundary-length F c hc) (boundary-length F a ha) (boundary-length F b hb)
 
   module _ (ka : pos 0 <ℤ corner a b c) (kb : pos 0 <ℤ corner b c a) (kc : pos 0 <ℤ corner c a b) where
     arm-a : pos 0 <ℤ corner A B C
@@ -192,15 +208,19 @@ module _ (F : Lifted) (proper : pos 0 <ℤ F .e) (a b c : Point) (ha : value F a
             (flip A B (sign-against area (cross A B) (side A B) (corner C A B) at-c side-c arm-c h)))
 
   -- the centre strictly inside the triangle: all angles are acute
-  pub around-acute : pos 0 <ℤ cross A B → pos 0 <ℤ cross B C → pos 0 <ℤ cross C A → (pos 0 <ℤ corner a b c) × (pos 0 <ℤ corner b c a) × (pos 0 <ℤ corner c a b)
+  pub around-acute : pos 0 <ℤ cross A B → pos 0 <ℤ cross B C → pos 0 <ℤ cross C A
+      → (pos 0 <ℤ corner a b c) × (pos 0 <ℤ corner b c a) × (pos 0 <ℤ corner c a b)
   around-acute wc wa wb = (
-    corner-from (F .e) area (cross B C) (side B C) (corner A B C) (corner a b c) at-a (arm-corner F a b c) whole wa (sq (C .x -ℤ B .x) ⊞ sq (C .y -ℤ B .y)),
-    corner-from (F .e) area (cross C A) (side C A) (corner B C A) (corner b c a) at-b (arm-corner F b c a) whole wb (sq (A .x -ℤ C .x) ⊞ sq (A .y -ℤ C .y)),
-    corner-from (F .e) area (cross A B) (side A B) (corner C A B) (corner c a b) at-c (arm-corner F c a b) whole wc (sq (B .x -ℤ A .x) ⊞ sq (B .y -ℤ A .y)),
+    corner-from (F .e) area (cross B C) (side B C) (corner A B C) (corner a b c) at-a (arm-corner F a b c) whole wa
+        (sq (C .x -ℤ B .x) ⊞ sq (C .y -ℤ B .y)),
+    corner-from (F .e) area (cross C A) (side C A) (corner B C A) (corner b c a) at-b (arm-corner F b c a) whole wb
+        (sq (A .x -ℤ C .x) ⊞ sq (A .y -ℤ C .y)),
+    corner-from (F .e) area (cross A B) (side A B) (corner C A B) (corner c a b) at-c (arm-corner F c a b) whole wc
+        (sq (B .x -ℤ A .x) ⊞ sq (B .y -ℤ A .y)),
   )
     where
-      sum3 : (u v w : ℤ) → pos 0 <ℤ u → pos 0 <ℤ v → pos 0 <ℤ w → pos 0 <ℤ (u +ℤ v +ℤ w)
-      sum3 u v w hu hv hw = positive (u ∷ v ∷ w ∷ []) (lt hu ⊞ lt hv ⊞ lt hw ⊞ nn 2) (search poly depth 30) tt
+      sum-of-three : (u v w : ℤ) → pos 0 <ℤ u → pos 0 <ℤ v → pos 0 <ℤ w → pos 0 <ℤ (u +ℤ v +ℤ w)
+      sum-of-three u v w hu hv hw = positive (u ∷ v ∷ w ∷ []) (lt hu ⊞ lt hv ⊞ lt hw ⊞ nn 2) (search poly depth 30) tt
 
       whole : pos 0 <ℤ area
-      whole = sum3 (cross A B) (cross B C) (cross C A) wc wa wb
+      whole = sum-of-three (cross A B) (cross B C) (cross C A) wc wa wb

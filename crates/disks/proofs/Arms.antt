@@ -1,7 +1,9 @@
--- Two and three plane vectors: their products, and what the signs of these say. Assumes nothing.
---     dot, cross, Opposite      the two products; the sum is zero
--- Proved: the identities by which a vector is a combination of two others (`cone-product`, `exchange-l` and the like); vectors of one length
--- with cross product zero are equal or opposite (`parallel`); with a positive one they are less than a half turn apart (`wide-arms`).
+-- Two and three plane vectors: their products, and what the signs of these say.
+--
+--   dot, cross, Opposite      == the two products; the sum is zero
+--   cone-product, exchange-l, exchange-r, back-l, back-r : a vector as a combination of two others
+--   parallel                  : vectors of one length with cross product zero are equal or opposite
+--   wide-arms                 : with a positive one they are less than a half turn apart
 use mathlib.Core.Path.{_≡_, sym, _∙_, ap₂, subst}
 use mathlib.Core.Logic.{_⊎_, inl, inr}
 use mathlib.Core.List.{[], _∷_}
@@ -64,28 +66,34 @@ abbrev pub Opposite : Point → Point → Type 0
 Opposite a b = (a .x +ℤ b .x ≡ pos 0) × (a .y +ℤ b .y ≡ pos 0)
 
 sum-and-difference : (a b : Point) (s : ℤ) → cross a b ≡ pos 0 → dot a a ≡ s → dot b b ≡ s
-    → ((a .x -ℤ b .x) *ℤ (a .x -ℤ b .x) +ℤ (a .y -ℤ b .y) *ℤ (a .y -ℤ b .y)) *ℤ ((a .x +ℤ b .x) *ℤ (a .x +ℤ b .x) +ℤ (a .y +ℤ b .y) *ℤ (a .y +ℤ b .y)) ≡ pos 0
+    → ((a .x -ℤ b .x) *ℤ (a .x -ℤ b .x) +ℤ (a .y -ℤ b .y) *ℤ (a .y -ℤ b .y)) *ℤ ((a .x +ℤ b .x) *ℤ (a .x +ℤ b .x) +ℤ (a .y +ℤ b .y) *ℤ (a .y +ℤ b .y))
+    ≡ pos 0
 sum-and-difference a b s hc ha hb = linear (a .x ∷ a .y ∷ b .x ∷ b .y ∷ s ∷ [])
     (eqn (pos 4 *ℤ cross a b) hc & eqn (dot a a -ℤ dot b b) ha & eqn (dot b b -ℤ dot a a) hb) (search poly depth 30) tt
 
 pub parallel : (a b : Point) (s : ℤ) → cross a b ≡ pos 0 → dot a a ≡ s → dot b b ≡ s → (a ≡ b) ⊎ Opposite a b
 parallel a b s hc ha hb = go (zero-product _ _ (sum-and-difference a b s hc ha hb))
   where
-    go : ((a .x -ℤ b .x) *ℤ (a .x -ℤ b .x) +ℤ (a .y -ℤ b .y) *ℤ (a .y -ℤ b .y) ≡ pos 0) ⊎ ((a .x +ℤ b .x) *ℤ (a .x +ℤ b .x) +ℤ (a .y +ℤ b .y) *ℤ (a .y +ℤ b .y) ≡ pos 0) → (a ≡ b) ⊎ Opposite a b
-    go (inl z) = let w = sum-squares-zero (a .x -ℤ b .x) (a .y -ℤ b .y) z in inl (point-path (eq-of-sub (a .x) (b .x) (w .0)) (eq-of-sub (a .y) (b .y) (w .1)))
+    go : ((a .x -ℤ b .x) *ℤ (a .x -ℤ b .x) +ℤ (a .y -ℤ b .y) *ℤ (a .y -ℤ b .y) ≡ pos 0)
+        ⊎ ((a .x +ℤ b .x) *ℤ (a .x +ℤ b .x) +ℤ (a .y +ℤ b .y) *ℤ (a .y +ℤ b .y) ≡ pos 0) → (a ≡ b) ⊎ Opposite a b
+    go (inl z) = let w = sum-squares-zero (a .x -ℤ b .x) (a .y -ℤ b .y) z in inl
+        (point-path (eq-of-sub (a .x) (b .x) (w .0)) (eq-of-sub (a .y) (b .y) (w .1)))
     go (inr z) = inr (sum-squares-zero (a .x +ℤ b .x) (a .y +ℤ b .y) z)
 
 -- ---- the signs
 
 -- x is positive, by one equation or the other, as the sign of m·c is
-pub sign-between : (x ml mr mb mc bl lc rc rb : ℤ) → x *ℤ ml ≡ bl *ℤ mc +ℤ lc *ℤ mb → x *ℤ mr ≡ rc *ℤ mb -ℤ rb *ℤ mc → pos 0 ≤ℤ bl → pos 0 <ℤ lc → pos 0 <ℤ rc → pos 0 ≤ℤ rb
+pub sign-between : (x ml mr mb mc bl lc rc rb : ℤ) → x *ℤ ml ≡ bl *ℤ mc +ℤ lc *ℤ mb → x *ℤ mr ≡ rc *ℤ mb -ℤ rb *ℤ mc → pos 0 ≤ℤ bl → pos 0 <ℤ lc
+    → pos 0 <ℤ rc → pos 0 ≤ℤ rb
     → pos 0 <ℤ ml → pos 0 <ℤ mr → pos 0 <ℤ mb → pos 0 <ℤ x
 sign-between x ml mr mb mc bl lc rc rb e1 e2 hbl hlc hrc hrb hml hmr hmb = go (≤-or-< x (pos 0)) (≤-or-< (pos 0) mc)
   where
     go : (x ≤ℤ pos 0) ⊎ (pos 0 <ℤ x) → (pos 0 ≤ℤ mc) ⊎ (mc <ℤ pos 0) → pos 0 <ℤ x
     go (inr h) k = h
-    go (inl h) (inl k) = clash (x ∷ ml ∷ mb ∷ mc ∷ bl ∷ lc ∷ []) (le (≤-of-< hml) ⊠ le h ⊞ hbl ⊠ k ⊞ lt hlc ⊠ lt hmb ⊞ lt hlc ⊞ lt hmb ⊞ eq (pos 1) e1) (search poly depth 30) tt
-    go (inl h) (inr k) = clash (x ∷ mr ∷ mb ∷ mc ∷ rc ∷ rb ∷ []) (le (≤-of-< hmr) ⊠ le h ⊞ hrb ⊠ le (≤-of-< k) ⊞ lt hrc ⊠ lt hmb ⊞ lt hrc ⊞ lt hmb ⊞ eq (pos 1) e2) (search poly depth 30) tt
+    go (inl h) (inl k) = clash (x ∷ ml ∷ mb ∷ mc ∷ bl ∷ lc ∷ []) (le (≤-of-< hml) ⊠ le h ⊞ hbl ⊠ k ⊞ lt hlc ⊠ lt hmb ⊞ lt hlc ⊞ lt hmb
+        ⊞ eq (pos 1) e1) (search poly depth 30) tt
+    go (inl h) (inr k) = clash (x ∷ mr ∷ mb ∷ mc ∷ rc ∷ rb ∷ []) (le (≤-of-< hmr) ⊠ le h ⊞ hrb ⊠ le (≤-of-< k) ⊞ lt hrc ⊠ lt hmb ⊞ lt hrc ⊞ lt hmb
+        ⊞ eq (pos 1) e2) (search poly depth 30) tt
 
 -- w·m = u·p + v·q, with u positive
 pub sign-front : (w m u p v q : ℤ) → w *ℤ m ≡ u *ℤ p +ℤ v *ℤ q → pos 0 ≤ℤ w → pos 0 <ℤ u → pos 0 <ℤ p → pos 0 ≤ℤ v → pos 0 <ℤ q → pos 0 <ℤ m
@@ -93,7 +101,8 @@ sign-front w m u p v q e hw hu hp hv hq = go (≤-or-< m (pos 0))
   where
     go : (m ≤ℤ pos 0) ⊎ (pos 0 <ℤ m) → pos 0 <ℤ m
     go (inr h) = h
-    go (inl h) = clash (w ∷ m ∷ u ∷ p ∷ v ∷ q ∷ []) (hw ⊠ le h ⊞ lt hu ⊠ lt hp ⊞ lt hu ⊞ lt hp ⊞ hv ⊠ le (≤-of-< hq) ⊞ eq (pos 1) e) (search poly depth 30) tt
+    go (inl h) = clash (w ∷ m ∷ u ∷ p ∷ v ∷ q ∷ []) (hw ⊠ le h ⊞ lt hu ⊠ lt hp ⊞ lt hu ⊞ lt hp ⊞ hv ⊠ le (≤-of-< hq) ⊞ eq (pos 1) e)
+        (search poly depth 30) tt
 
 -- arms of one length that are not parallel are less than a half turn apart
 wide : (d t s : ℤ) → d *ℤ d +ℤ t *ℤ t ≡ s *ℤ s → pos 0 <ℤ t → pos 0 <ℤ s → pos 0 <ℤ (s +ℤ d)
@@ -101,15 +110,18 @@ wide d t s e ht hs = go (≤-or-< (s +ℤ d) (pos 0))
   where
     go : ((s +ℤ d) ≤ℤ pos 0) ⊎ (pos 0 <ℤ (s +ℤ d)) → pos 0 <ℤ (s +ℤ d)
     go (inr h) = h
-    go (inl h) = clash (d ∷ t ∷ s ∷ []) (le h ⊠ (le h ⊞ nn 2 ⊠ le (≤-of-< hs)) ⊞ lt ht ⊠ lt ht ⊞ nn 2 ⊠ lt ht ⊞ eq (negsuc 0) e) (search poly depth 30) tt
+    go (inl h) = clash (d ∷ t ∷ s ∷ []) (le h ⊠ (le h ⊞ nn 2 ⊠ le (≤-of-< hs)) ⊞ lt ht ⊠ lt ht ⊞ nn 2 ⊠ lt ht ⊞ eq (negsuc 0) e)
+        (search poly depth 30) tt
 
 pub wide-arms : (a b : Point) (s : ℤ) → dot a a ≡ s → dot b b ≡ s → pos 0 <ℤ cross a b → pos 0 <ℤ s → pos 0 <ℤ (s +ℤ dot a b)
 wide-arms a b s ha hb ht hs = wide (dot a b) (cross a b) s (lengths a b ∙ ap₂ _*ℤ_ ha hb) ht hs
 
 -- w·m = u·p + v·q with u, v and w not negative and m not positive: u and v are zero
-pub both-zero : (w m u p v q : ℤ) → w *ℤ m ≡ u *ℤ p +ℤ v *ℤ q → pos 0 ≤ℤ w → m ≤ℤ pos 0 → pos 0 ≤ℤ u → pos 0 <ℤ p → pos 0 ≤ℤ v → pos 0 <ℤ q → v ≡ pos 0
+pub both-zero : (w m u p v q : ℤ) → w *ℤ m ≡ u *ℤ p +ℤ v *ℤ q → pos 0 ≤ℤ w → m ≤ℤ pos 0 → pos 0 ≤ℤ u → pos 0 <ℤ p → pos 0 ≤ℤ v → pos 0 <ℤ q
+    → v ≡ pos 0
 both-zero w m u p v q e hw hm hu hp hv hq = go (≤-or-< v (pos 0))
   where
     go : (v ≤ℤ pos 0) ⊎ (pos 0 <ℤ v) → v ≡ pos 0
     go (inl h) = ≤-antisym h hv
-    go (inr h) = clash (w ∷ m ∷ u ∷ p ∷ v ∷ q ∷ []) (hw ⊠ le hm ⊞ hu ⊠ le (≤-of-< hp) ⊞ lt h ⊠ lt hq ⊞ lt h ⊞ lt hq ⊞ eq (pos 1) e) (search poly depth 30) tt
+    go (inr h) = clash (w ∷ m ∷ u ∷ p ∷ v ∷ q ∷ []) (hw ⊠ le hm ⊞ hu ⊠ le (≤-of-< hp) ⊞ lt h ⊠ lt hq ⊞ lt h ⊞ lt hq ⊞ eq (pos 1) e)
+        (search poly depth 30) tt

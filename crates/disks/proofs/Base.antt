@@ -1,8 +1,10 @@
--- The smallest disk with one or two given points on its rim, and multiples of a form. Assumes nothing.
---     pointDisk, pairDisk     the point itself; the disk over a diameter
---     Multiple F G            G is F times a factor: the same disk
--- Proved: the two disks are strongly minimal for no further points (`point-strong`, `pair-strong`); a multiple of a disk holds the same points
--- (`multiple-value`, `holds-by`) and has no gap to it (`multiple-no-gap`).
+-- The smallest disk with one or two given points on its boundary, and multiples of a form.
+--
+--   pointDisk, pairDisk    == the point itself; the disk over a diameter
+--   Multiple F G           == G is F times a factor: the same disk
+--   point-strong, pair-strong        : the two disks are strongly minimal, with no further points
+--   multiple-value, holds-by         : a multiple of a disk holds the same points
+--   multiple-no-gap                  : and has no gap to it
 use mathlib.Core.Path.{_≡_, refl, sym, _∙_, ap, ap₂}
 use mathlib.Core.Logic.{_≢_}
 use mathlib.Core.List.{[], _∷_, List·Memᴰ·head, List·Memᴰ·tail}
@@ -33,8 +35,8 @@ positive-one = positive [] (nn 0) (search poly depth 30) tt
 
 pub point-strong : (q : Point) → StronglyMinimal [] (q ∷ []) (pointDisk q)
 point-strong q = record {
-  feasible = record { proper = positive-one; holds = none-of (λ p. value (pointDisk q) p ≤ℤ pos 0); rim = also On (point-value q) (none-of On) };
-  least = λ G f. ≤-of-eq (sym (point-gap q G ∙ ap negℤ (f .rim q (List·Memᴰ·head refl))));
+  feasible = record { proper = positive-one; holds = none-of (λ p. value (pointDisk q) p ≤ℤ pos 0); on-boundary = also On (point-value q) (none-of On) };
+  least = λ G f. ≤-of-eq (sym (point-gap q G ∙ ap negℤ (f .on-boundary q (List·Memᴰ·head refl))));
 }
   where
     On : Point → Type 0
@@ -62,8 +64,13 @@ twice-none p q = ap₂ (λ (v w : ℤ). negℤ (pos 2 *ℤ v +ℤ pos 2 *ℤ w))
 
 pub pair-strong : (q r : Point) → StronglyMinimal [] (q ∷ r ∷ []) (pairDisk q r)
 pair-strong q r = record {
-  feasible = record { proper = positive-two; holds = none-of (λ p. value (pairDisk q r) p ≤ℤ pos 0); rim = also On (pair-first q r) (also On (pair-second q r) (none-of On)) };
-  least = λ G f. ≤-of-eq (sym (pair-gap q r G ∙ twice-none (f .rim q (List·Memᴰ·head refl)) (f .rim r (List·Memᴰ·tail (List·Memᴰ·head refl)))));
+  feasible = record {
+    proper = positive-two;
+    holds = none-of (λ p. value (pairDisk q r) p ≤ℤ pos 0);
+    on-boundary = also On (pair-first q r)
+        (also On (pair-second q r) (none-of On));
+  };
+  least = λ G f. ≤-of-eq (sym (pair-gap q r G ∙ twice-none (f .on-boundary q (List·Memᴰ·head refl)) (f .on-boundary r (List·Memᴰ·tail (List·Memᴰ·head refl)))));
 }
   where
     On : Point → Type 0
@@ -82,7 +89,8 @@ multiple-value {F} {G} m p = linear (F .e ∷ F .cx ∷ F .cy ∷ F .k ∷ G .e 
 
 multiple-gap : {F G : Lifted} → Multiple F G → F .e *ℤ gap F G ≡ F .e *ℤ pos 0
 multiple-gap {F} {G} m = linear (F .e ∷ F .cx ∷ F .cy ∷ F .k ∷ G .e ∷ G .cx ∷ G .cy ∷ G .k ∷ [])
-    (eqn (F .e *ℤ (pos 2 *ℤ F .cx)) (m .same-x) & eqn (F .e *ℤ (pos 2 *ℤ F .cy)) (m .same-y) & eqn (negℤ (F .e *ℤ F .e)) (m .same-k)) (search poly depth 30) tt
+    (eqn (F .e *ℤ (pos 2 *ℤ F .cx)) (m .same-x) & eqn (F .e *ℤ (pos 2 *ℤ F .cy)) (m .same-y) & eqn (negℤ (F .e *ℤ F .e)) (m .same-k))
+    (search poly depth 30) tt
 
 pub difference-positive : (a b : ℤ) → a <ℤ b → pos 0 <ℤ (b -ℤ a)
 difference-positive a b h = positive (a ∷ b ∷ []) (lt h) (search poly depth 30) tt

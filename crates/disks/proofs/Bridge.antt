@@ -5,7 +5,7 @@
 --   boundary-cover         : the two disks with one, two or three points on the boundary agree
 --   run-image              : the two runs agree, wherever some disk is feasible and R has at most three points, all different
 --   mtf-image, diskOf-lowered, testsOf-count, orderOf-left : so from no point fixed
-use mathlib.Core.Path.{_≡_, refl, sym, _∙_, ap, ap₂, subst}
+use mathlib.Core.Path.{_≡_, refl, sym, _∙_, ap, subst}
 use mathlib.Core.Bool.{Bool, true, false, not}
 use mathlib.Core.List.{List, [], _∷_, _++_, List·Memᴰ·head, List·Permᴰ·nil}
 use Prim.Native.Nat.{ℕ, zero, suc, _+_, _*_, _/_, _≤_, zero-le}
@@ -15,7 +15,7 @@ use native.Mathlib.Omega.{arith}
 use lib.Dec.{T}
 use lib.IntN.{ℤ, pos, negsuc, negℤ, natAbs, _+ℤ_, _-ℤ_, _*ℤ_}
 use lib.ListN.{length}
-use lib.Signed.{_≤ℤ_, _<ℤ_, ltZ, leZ, ltZ-no, quotZ}
+use lib.Signed.{_<ℤ_, ltZ, leZ, quotZ}
 use Rattle.integers.specs.Between.{below, not-below}
 use Rattle.integers.specs.Gcd.{gcd, steps}
 use Rattle.integers.specs.Ring.{ring, poly}
@@ -24,15 +24,15 @@ use Rattle.geometry.specs.declared.Point.{Point}
 use Rattle.geometry.specs.declared.Disk.{Disk}
 use Rattle.geometry.specs.Plane.{distance, holds}
 use Rattle.disks.specs.Procedure.{Cover, empty, disk, outside, lowestTerms, pointDisk, diameterDisk, turnedBy, circle, boundaryDisk, State, tested, step, through, start, run, norm, diskIn, diskOf, testsOf, orderOf}
-use Rattle.disks.proofs.Lifted.{Lifted, value, squaredRadius, noDisk}
+use Rattle.disks.proofs.Lifted.{Lifted, value, squaredRadius}
 use Rattle.disks.proofs.Minimal.{Feasible, StronglyMinimal}
 use Rattle.disks.proofs.Base as B
 use Rattle.disks.proofs.Triple as C
 use Rattle.disks.proofs.Triple.{Different}
 use Rattle.disks.proofs.LiftedProcedure as L
-use Rattle.disks.proofs.Correct.{Found, found, nothing, base-found, full-found, Ran, Right, turn-ran, inner-feasible, inner-different, feasible-front, next, run-ran, large-feasible, mtf-strong}
+use Rattle.disks.proofs.Correct.{Found, found, nothing, base-found, full-found, Ran, turn-ran, inner-feasible, inner-different, feasible-front, next, run-ran, large-feasible, mtf-strong}
 use Rattle.disks.proofs.Support.{Supported, one, two, three, support}
-use Rattle.disks.proofs.Tests.{same-test, same-ltZ, outside-none}
+use Rattle.disks.proofs.Tests.{same-ltZ, outside-none}
 use Rattle.disks.proofs.LowestTerms.{lowered, Written, lowered-written, written-value, square-factor}
 
 -- ---- the cover
@@ -63,10 +63,10 @@ boundary-point : {P R : List Point} {F : Lifted} → StronglyMinimal P R F → (
 boundary-point {P} {R = []} {F} m = go (support m)
   where
     go : Supported P F → (p : Point) × (value F p ≡ pos 0)
-    go (one a s) = (a, s .on-rim a (List·Memᴰ·head refl))
-    go (two a b s) = (a, s .on-rim a (List·Memᴰ·head refl))
-    go (three a b c s) = (a, s .on-rim a (List·Memᴰ·head refl))
-boundary-point {P} {R = q ∷ R} {F} m = (q, m .feasible .rim q (List·Memᴰ·head refl))
+    go (one a s) = (a, s .on-boundary a (List·Memᴰ·head refl))
+    go (two a b s) = (a, s .on-boundary a (List·Memᴰ·head refl))
+    go (three a b c s) = (a, s .on-boundary a (List·Memᴰ·head refl))
+boundary-point {P} {R = q ∷ R} {F} m = (q, m .feasible .on-boundary q (List·Memᴰ·head refl))
 
 pub strong-written : {P R : List Point} {F : Lifted} → StronglyMinimal P R F → Written F (lowered F)
 strong-written {F} m = let b = boundary-point m in lowered-written F (m .feasible .proper) (b .0) (b .1)
@@ -81,10 +81,12 @@ not-leZ a b = go (ltZ b a) refl
     go false e = ap not (not-below b a e)
 
 more-by : (E v n d s : ℤ) → E *ℤ v ≡ n *ℤ (d -ℤ s) → pos 0 <ℤ E → pos 0 <ℤ n → pos 0 <ℤ v → s <ℤ d
-more-by E v n d s q hE hn hv = <-cancel hn (positive (E ∷ v ∷ n ∷ d ∷ s ∷ []) (lt hE ⊠ lt hv ⊞ lt hE ⊞ lt hv ⊞ eq (negsuc 0) q) (search poly depth 30) tt)
+more-by E v n d s q hE hn hv = <-cancel hn (positive (E ∷ v ∷ n ∷ d ∷ s ∷ []) (lt hE ⊠ lt hv ⊞ lt hE ⊞ lt hv ⊞ eq (negsuc 0) q)
+    (search poly depth 30) tt)
 
 positive-by : (E v n d s : ℤ) → E *ℤ v ≡ n *ℤ (d -ℤ s) → pos 0 <ℤ E → pos 0 <ℤ n → s <ℤ d → pos 0 <ℤ v
-positive-by E v n d s q hE hn h = <-cancel hE (positive (E ∷ v ∷ n ∷ d ∷ s ∷ []) (lt hn ⊠ lt h ⊞ lt hn ⊞ lt h ⊞ eq (pos 1) q) (search poly depth 30) tt)
+positive-by E v n d s q hE hn h = <-cancel hE
+    (positive (E ∷ v ∷ n ∷ d ∷ s ∷ []) (lt hn ⊠ lt h ⊞ lt hn ⊞ lt h ⊞ eq (pos 1) q) (search poly depth 30) tt)
 
 outside-written : {F : Lifted} {d : Disk} → pos 0 <ℤ F .e → Written F d → (p : Point) → outside (disk d) p ≡ L.outside F p
 unfolding outside holds L.outside
@@ -95,7 +97,8 @@ outside-written {F} {d} he w p = not-leZ (distance d p) (pos (d .s))
 
 pub outside-cover : {P R : List Point} {F : Lifted} → Found P R F → (p : Point) → outside (coverOf F) p ≡ L.outside F p
 unfolding outside coverBy
-outside-cover {F} (found m) p = ap (λ (c : Cover). outside c p) (cover-disk F (m .feasible .proper)) ∙ outside-written (m .feasible .proper) (strong-written m) p
+outside-cover {F} (found m) p = ap (λ (c : Cover). outside c p) (cover-disk F (m .feasible .proper)) ∙ outside-written (m .feasible .proper)
+    (strong-written m) p
 outside-cover nothing p = sym (outside-none p)
 
 -- ---- the disks with R on the boundary agree
@@ -110,7 +113,8 @@ quotient-one (negsuc n) = ap (λ (m : ℕ). negℤ (pos m)) (div-one (suc n))
 
 one-lowest : (a : Point) → lowestTerms (a .x) (a .y) 1 0 ≡ pointDisk a
 unfolding lowestTerms
-one-lowest a = ap (λ (g : ℕ). record { x = quotZ (a .x) (pos g); y = quotZ (a .y) (pos g); e = 1 / g; s = 0 / (g * g) }) (gcd-one (gcd (natAbs (a .x)) (natAbs (a .y))))
+one-lowest a = ap (λ (g : ℕ). record { x = quotZ (a .x) (pos g); y = quotZ (a .y) (pos g); e = 1 / g; s = 0 / (g * g) })
+    (gcd-one (gcd (natAbs (a .x)) (natAbs (a .y))))
     ∙ (λ i. record { x = quotient-one (a .x) i; y = quotient-one (a .y) i; e = 1; s = 0 })
 
 point-radius : (a : Point) → squaredRadius (B.pointDisk a) ≡ pos 0
@@ -138,7 +142,8 @@ around a w gx gy = record {
 
 -- the same by the sign of w, as specs/ writes it
 abbrev turnedAround : Point → ℤ → ℤ → ℤ → Disk
-turnedAround a w gx gy = lowestTerms (a .x *ℤ pos (2 * natAbs w) +ℤ turnedBy w gx) (a .y *ℤ pos (2 * natAbs w) +ℤ turnedBy w gy) (2 * natAbs w) (natAbs (norm (turnedBy w gx) (turnedBy w gy)))
+turnedAround a w gx gy = lowestTerms (a .x *ℤ pos (2 * natAbs w) +ℤ turnedBy w gx) (a .y *ℤ pos (2 * natAbs w) +ℤ turnedBy w gy) (2 * natAbs w)
+    (natAbs (norm (turnedBy w gx) (turnedBy w gy)))
 
 around-radius : (a : Point) (w gx gy : ℤ) → norm gx gy ≡ squaredRadius (around a w gx gy)
 around-radius a w gx gy = ring (a .x ∷ a .y ∷ w ∷ gx ∷ gy ∷ []) (search poly depth 30) tt
@@ -157,12 +162,15 @@ not-negative n = le-ltb n 0 zero-le
 
 by-sign : (a : Point) (w gx gy : ℤ) → turnedAround a w gx gy ≡ lowered (C.turned (ltZ w (pos 0)) (around a w gx gy))
 unfolding turnedBy
-by-sign a (pos n) gx gy = lowest-same refl refl refl (ap natAbs (around-radius a (pos n) gx gy)) ∙ ap (λ (t : Bool). lowered (C.turned t (around a (pos n) gx gy))) (sym (not-negative n))
-by-sign a (negsuc n) gx gy = lowest-same (negated-centre (a .x) (pos (suc n)) gx) (negated-centre (a .y) (pos (suc n)) gy) (ap natAbs (negated-weight (pos (suc n)))) (ap natAbs (negated-radius a (negsuc n) gx gy))
+by-sign a (pos n) gx gy = lowest-same refl refl refl (ap natAbs (around-radius a (pos n) gx gy))
+    ∙ ap (λ (t : Bool). lowered (C.turned t (around a (pos n) gx gy))) (sym (not-negative n))
+by-sign a (negsuc n) gx gy = lowest-same (negated-centre (a .x) (pos (suc n)) gx) (negated-centre (a .y) (pos (suc n)) gy)
+    (ap natAbs (negated-weight (pos (suc n)))) (ap natAbs (negated-radius a (negsuc n) gx gy))
 
 circle-lowered : (a b c : Point) → circle a b c ≡ lowered (C.tripleDisk a b c)
 unfolding circle
-circle-lowered a b c = by-sign a (C.turn a b c) (C.gx a b c) (C.gy a b c) ∙ ap (λ (t : Bool). lowered (C.turned t (C.circle a b c))) (sym (twice-negative (C.turn a b c)))
+circle-lowered a b c = by-sign a (C.turn a b c) (C.gx a b c) (C.gy a b c) ∙ ap (λ (t : Bool). lowered (C.turned t (C.circle a b c)))
+    (sym (twice-negative (C.turn a b c)))
 
 -- with room in R, whatever it is; R of three where the lifted disk is a disk
 pub boundary-cover : (R : List Point) → length R ≤ 2 → boundaryDisk R ≡ coverOf (L.rimDisk R)
@@ -186,32 +194,39 @@ abbrev Agree : ℕ → Type 0
 Agree k = (R P : List Point) (W : Lifted) → Feasible P R W → Different R → length R + k ≡ 3 → run k R P ≡ image (L.runWith k R P)
 
 module _ (k : ℕ) (R : List Point) (W : Lifted) (agree : Agree k) (size : length R + suc k ≡ 3) (d : Different R) where
-  step-image : (Q : List Point) (p : Point) (s : L.State) → Feasible (Q ++ (p ∷ [])) R W → Ran (suc k) R Q s → step (run k) R (image s) p ≡ image (L.turn-at (L.runWith k) R s p)
+  step-image : (Q : List Point) (p : Point) (s : L.State) → Feasible (Q ++ (p ∷ [])) R W → Ran (suc k) R Q s
+      → step (run k) R (image s) p ≡ image (L.turn-at (L.runWith k) R s p)
   unfolding step tested L.turn-at L.outside L.tested
   step-image Q p s f r = ap (λ (b : Bool). tested b (image s) p (run k (p ∷ R) (s .left))) (outside-cover (r .disk-found) p)
-      ∙ go (ltZ (pos 0) (value (s .disk) p)) (λ t. agree (p ∷ R) (s .left) _ (inner-feasible k R Q p s W (run-ran k) size d f r (record { lt = t })) (inner-different k R Q p s W (run-ran k) size d f r (record { lt = t })) (omega arith))
+      ∙ go (ltZ (pos 0) (value (s .disk) p)) (λ t. agree (p ∷ R) (s .left) _ (inner-feasible k R Q p s W (run-ran k) size d f r (record { lt = t }))
+      (inner-different k R Q p s W (run-ran k) size d f r (record { lt = t })) (omega arith))
     where
-      go : (b : Bool) → (T b → run k (p ∷ R) (s .left) ≡ image (L.runWith k (p ∷ R) (s .left))) → tested b (image s) p (run k (p ∷ R) (s .left)) ≡ image (L.tested b s p (L.runWith k (p ∷ R) (s .left)))
+      go : (b : Bool) → (T b → run k (p ∷ R) (s .left) ≡ image (L.runWith k (p ∷ R) (s .left)))
+          → tested b (image s) p (run k (p ∷ R) (s .left)) ≡ image (L.tested b s p (L.runWith k (p ∷ R) (s .left)))
       go true e = ap (λ (a : State). record { cover = a .cover; tests = s .count + 1 + a .tests; left = p ∷ a .left }) (e tt)
       go false e = refl
 
-  through-image : (Q ps : List Point) (s : L.State) → Feasible (Q ++ ps) R W → Ran (suc k) R Q s → through (step (run k) R) (image s) ps ≡ image (L.one-by-one (L.turn-at (L.runWith k) R) s ps)
+  through-image : (Q ps : List Point) (s : L.State) → Feasible (Q ++ ps) R W → Ran (suc k) R Q s
+      → through (step (run k) R) (image s) ps ≡ image (L.one-by-one (L.turn-at (L.runWith k) R) s ps)
   unfolding through L.one-by-one
   through-image Q [] s f r = refl
-  through-image Q (p ∷ ps) s f r = ap (λ (t : State). through (step (run k) R) t ps) (step-image Q p s here r)
-      ∙ through-image (Q ++ (p ∷ [])) ps (L.turn-at (L.runWith k) R s p) f' (turn-ran k R Q p s W (run-ran k) size d here r)
+  through-image Q (p ∷ ps) s f r = ap (λ (t : State). through (step (run k) R) t ps) (step-image Q p s next-feasible r)
+      ∙ through-image (Q ++ (p ∷ [])) ps (L.turn-at (L.runWith k) R s p) all-feasible (turn-ran k R Q p s W (run-ran k) size d next-feasible r)
     where
-      f' : Feasible ((Q ++ (p ∷ [])) ++ ps) R W
-      f' = subst (λ (P : List Point). Feasible P R W) (sym (next Q ps p)) f
+      all-feasible : Feasible ((Q ++ (p ∷ [])) ++ ps) R W
+      all-feasible = subst (λ (P : List Point). Feasible P R W) (sym (next Q ps p)) f
 
-      here : Feasible (Q ++ (p ∷ [])) R W
-      here = feasible-front (Q ++ (p ∷ [])) ps f'
+      next-feasible : Feasible (Q ++ (p ∷ [])) R W
+      next-feasible = feasible-front (Q ++ (p ∷ [])) ps all-feasible
 
 pub run-image : (k : ℕ) → Agree k
 unfolding run L.runWith
-run-image zero R P W f d size = ap (λ (c : Cover). record { cover = c; tests = 0; left = P }) (full-cover R (omega arith) (full-found R (omega arith) f d .feasible .proper))
-run-image (suc k) R P W f d size = ap (λ (c : Cover). through (step (run k) R) (record { cover = c; tests = 0; left = [] }) P) (boundary-cover R (omega arith))
-    ∙ through-image k R W (run-image k) size d [] P (L.start R []) f (record { disk-found = base-found R (omega arith); left-permuted = List·Permᴰ·nil; count-most = omega arith })
+run-image zero R P W f d size = ap (λ (c : Cover). record { cover = c; tests = 0; left = P })
+    (full-cover R (omega arith) (full-found R (omega arith) f d .feasible .proper))
+run-image (suc k) R P W f d size = ap (λ (c : Cover). through (step (run k) R) (record { cover = c; tests = 0; left = [] }) P)
+    (boundary-cover R (omega arith))
+    ∙ through-image k R W (run-image k) size d [] P (L.start R []) f
+    (record { disk-found = base-found R (omega arith); left-permuted = List·Permᴰ·nil; count-most = omega arith })
 
 -- ---- from no point fixed
 
@@ -225,4 +240,5 @@ pub orderOf-left : (P : List Point) → orderOf P ≡ L.mtf P .left
 orderOf-left P = ap (λ (s : State). s .left) (mtf-image P)
 
 pub diskOf-lowered : (p : Point) (P : List Point) → diskOf (p ∷ P) ≡ lowered (L.mtf (p ∷ P) .disk)
-diskOf-lowered p P = ap (λ (s : State). diskIn (s .cover)) (mtf-image (p ∷ P)) ∙ ap diskIn (cover-disk (L.mtf (p ∷ P) .disk) (mtf-strong p P .feasible .proper))
+diskOf-lowered p P = ap (λ (s : State). diskIn (s .cover)) (mtf-image (p ∷ P))
+    ∙ ap diskIn (cover-disk (L.mtf (p ∷ P) .disk) (mtf-strong p P .feasible .proper))

@@ -1,8 +1,9 @@
--- The planar lemma: arms of one length > 0 from one centre. Assumes nothing.
---     Cone f ps           two of the points, l and r, whose arms bound a cone narrower than a half turn that has all arms; f gives a point's arm
---     Placed f ps         two arms are opposite; or the centre is strictly inside the triangle of three; or all lie in a cone
--- Proved: `placed`, one of the three holds for every list of points, not empty, whose arms have one length > 0. In a cone, v = f l + f r has a
--- positive product with every arm (`front`).
+-- The planar lemma about arms of one length > 0 from one centre (000, Lemma 1 (iii)).
+--
+--   Cone f ps       == two of the points, l and r, whose arms bound a cone narrower than a half turn that has all arms; f gives a point's arm,
+--                      and f l + f r has a positive product with every arm
+--   Placed f ps     == two arms are opposite; or the centre is strictly inside the triangle of three; or all lie in a cone
+--   placed          : one of the three holds for every list of points, not empty, whose arms have one length > 0
 use mathlib.Core.Path.{_≡_, refl, sym, _∙_, ap₂, subst}
 use mathlib.Core.Logic.{_⊎_, inl, inr}
 use mathlib.Core.List.{List, [], _∷_, List·Memᴰ·head, List·Memᴰ·tail, List·Memᴰ·not-nil}
@@ -16,7 +17,8 @@ use Rattle.disks.proofs.Minimal.{In, also}
 use Rattle.disks.proofs.Arms.{dot, cross, Opposite, cone-product, exchange-l, exchange-r, back-r, back-l, dot-comm, cross-self, parallel, sign-between, sign-front, wide-arms, both-zero, flip}
 
 no-turn : {X : Type 0} (w m u p v q : ℤ) → w *ℤ m ≡ u *ℤ p +ℤ v *ℤ q → pos 0 ≡ w → u <ℤ pos 0 → pos 0 <ℤ p → v <ℤ pos 0 → pos 0 <ℤ q → X
-no-turn w m u p v q e z hu hp hv hq = clash (w ∷ m ∷ u ∷ p ∷ v ∷ q ∷ []) (lt hu ⊠ lt hp ⊞ lt hu ⊞ lt hp ⊞ le (≤-of-< hv) ⊠ le (≤-of-< hq) ⊞ eq (negsuc 0) e ⊞ eq (negℤ m) z) (search poly depth 30) tt
+no-turn w m u p v q e z hu hp hv hq = clash (w ∷ m ∷ u ∷ p ∷ v ∷ q ∷ []) (lt hu ⊠ lt hp ⊞ lt hu ⊞ lt hp ⊞ le (≤-of-< hv) ⊠ le (≤-of-< hq)
+    ⊞ eq (negsuc 0) e ⊞ eq (negℤ m) z) (search poly depth 30) tt
 
 module _ (f : Point → Point) where
   pub record Cone (ps : List Point) : Type 0 where
@@ -30,7 +32,8 @@ module _ (f : Point → Point) where
 
   pub data Placed (ps : List Point) : Type 0 where
     opposite : (a b : Point) → In a ps → In b ps → Opposite (f a) (f b) → Placed ps
-    around : (a b c : Point) → In a ps → In b ps → In c ps → pos 0 <ℤ cross (f a) (f b) → pos 0 <ℤ cross (f b) (f c) → pos 0 <ℤ cross (f c) (f a) → Placed ps
+    around : (a b c : Point) → In a ps → In b ps → In c ps → pos 0 <ℤ cross (f a) (f b) → pos 0 <ℤ cross (f b) (f c) → pos 0 <ℤ cross (f c) (f a)
+        → Placed ps
     cone : Cone ps → Placed ps
 
   module _ (s : ℤ) (positive-length : pos 0 <ℤ s) where
@@ -79,7 +82,8 @@ module _ (f : Point → Point) where
           end h (inr o) = opposite (k .r) c (List·Memᴰ·tail (k .r-in)) (List·Memᴰ·head refl) o
 
           go : ((dot vl (f c) +ℤ dot vr (f c)) ≤ℤ pos 0) ⊎ (pos 0 <ℤ (dot vl (f c) +ℤ dot vr (f c))) → Placed (c ∷ ps)
-          go (inl h) = end h (parallel vr (f c) s (both-zero (cross vr vl) (dot vl (f c) +ℤ dot vr (f c)) (cross (f c) vl) (dot vl vr +ℤ dot vr vr) (cross vr (f c)) (dot vl vl +ℤ dot vr vl)
+          go (inl h) = end h (parallel vr (f c) s (both-zero (cross vr vl) (dot vl (f c) +ℤ dot vr (f c)) (cross (f c) vl) (dot vl vr +ℤ dot vr vr)
+              (cross vr (f c)) (dot vl vl +ℤ dot vr vl)
               (cone-product vl vr (f c)) turn-nn h hb mr ha ml) norm-r hc)
           go (inr h) = cone (record {
             l = k .l;
@@ -100,12 +104,15 @@ module _ (f : Point → Point) where
         r-in = List·Memᴰ·tail (k .r-in);
         left = also (λ p. pos 0 ≤ℤ cross (f p) (f c)) (≤-of-eq (sym (cross-self (f c)))) (λ p m. ≤-of-< (turn p m));
         right = also (λ p. pos 0 ≤ℤ cross vr (f p)) (≤-of-< ha) (k .right);
-        front = also (λ p. pos 0 <ℤ (dot (f c) (f p) +ℤ dot vr (f p))) at-c (λ p m. sign-front (cross vr (f c)) (dot (f c) (f p) +ℤ dot vr (f p)) (cross (f p) (f c)) (dot (f c) vr +ℤ dot vr vr) (cross vr (f p)) (dot (f c) (f c) +ℤ dot vr (f c))
+        front = also (λ p. pos 0 <ℤ (dot (f c) (f p) +ℤ dot vr (f p))) at-c
+            (λ p m. sign-front (cross vr (f c)) (dot (f c) (f p) +ℤ dot vr (f p)) (cross (f p) (f c)) (dot (f c) vr +ℤ dot vr vr) (cross vr (f p))
+            (dot (f c) (f c) +ℤ dot vr (f c))
             (cone-product (f c) vr (f p)) (≤-of-< ha) (turn p m) at-r (k .right p m) at-c);
       }
         where
           turn : (p : Point) → In p ps → pos 0 <ℤ cross (f p) (f c)
-          turn p m = sign-between (cross (f p) (f c)) (dot vl vl +ℤ dot vr vl) (dot vl vr +ℤ dot vr vr) (dot vl (f p) +ℤ dot vr (f p)) (dot vl (f c) +ℤ dot vr (f c)) (cross (f p) vl) (cross vl (f c)) (cross vr (f c)) (cross vr (f p))
+          turn p m = sign-between (cross (f p) (f c)) (dot vl vl +ℤ dot vr vl) (dot vl vr +ℤ dot vr vr) (dot vl (f p) +ℤ dot vr (f p))
+              (dot vl (f c) +ℤ dot vr (f c)) (cross (f p) vl) (cross vl (f c)) (cross vr (f c)) (cross vr (f p))
               (exchange-l vl vr (f p) (f c)) (exchange-r vl vr (f p) (f c)) (k .left p m) hb ha (k .right p m) ml mr (k .front p m)
 
           less-than-half : pos 0 <ℤ (s +ℤ dot vr (f c))
@@ -126,12 +133,16 @@ module _ (f : Point → Point) where
         r-in = List·Memᴰ·head refl;
         left = also (λ p. pos 0 ≤ℤ cross (f p) vl) (≤-of-< hb) (k .left);
         right = also (λ p. pos 0 ≤ℤ cross (f c) (f p)) (≤-of-eq (sym (cross-self (f c)))) (λ p m. ≤-of-< (turn p m));
-        front = also (λ p. pos 0 <ℤ (dot vl (f p) +ℤ dot (f c) (f p))) at-c (λ p m. sign-front (cross (f c) vl) (dot vl (f p) +ℤ dot (f c) (f p)) (cross (f c) (f p)) (dot vl vl +ℤ dot (f c) vl) (cross (f p) vl) (dot vl (f c) +ℤ dot (f c) (f c))
-            (cone-product vl (f c) (f p) ∙ +-comm (cross (f p) vl *ℤ (dot vl (f c) +ℤ dot (f c) (f c))) (cross (f c) (f p) *ℤ (dot vl vl +ℤ dot (f c) vl))) (≤-of-< hb) (turn p m) at-l (k .left p m) at-c);
+        front = also (λ p. pos 0 <ℤ (dot vl (f p) +ℤ dot (f c) (f p))) at-c
+            (λ p m. sign-front (cross (f c) vl) (dot vl (f p) +ℤ dot (f c) (f p)) (cross (f c) (f p)) (dot vl vl +ℤ dot (f c) vl) (cross (f p) vl)
+            (dot vl (f c) +ℤ dot (f c) (f c))
+            (cone-product vl (f c) (f p) ∙ +-comm (cross (f p) vl *ℤ (dot vl (f c) +ℤ dot (f c) (f c)))
+            (cross (f c) (f p) *ℤ (dot vl vl +ℤ dot (f c) vl))) (≤-of-< hb) (turn p m) at-l (k .left p m) at-c);
       }
         where
           turn : (p : Point) → In p ps → pos 0 <ℤ cross (f c) (f p)
-          turn p m = sign-between (cross (f c) (f p)) (dot vl vr +ℤ dot vr vr) (dot vl vl +ℤ dot vr vl) (dot vl (f p) +ℤ dot vr (f p)) (dot vl (f c) +ℤ dot vr (f c)) (cross vr (f p)) (cross (f c) vr) (cross (f c) vl) (cross (f p) vl)
+          turn p m = sign-between (cross (f c) (f p)) (dot vl vr +ℤ dot vr vr) (dot vl vl +ℤ dot vr vl) (dot vl (f p) +ℤ dot vr (f p))
+              (dot vl (f c) +ℤ dot vr (f c)) (cross vr (f p)) (cross (f c) vr) (cross (f c) vl) (cross (f p) vl)
               (back-r vl vr (f p) (f c)) (back-l vl vr (f p) (f c)) (k .right p m) ha hb (k .left p m) mr ml (k .front p m)
 
           less-than-half : pos 0 <ℤ (s +ℤ dot (f c) vl)
@@ -172,8 +183,10 @@ module _ (f : Point → Point) where
       behind ha hb = go (compared (pos 0) (cross vr vl))
         where
           go : Compared (pos 0) (cross vr vl) → Placed (c ∷ ps)
-          go (less h) = around (k .r) (k .l) c (List·Memᴰ·tail (k .r-in)) (List·Memᴰ·tail (k .l-in)) (List·Memᴰ·head refl) h (flip (f c) vl hb) (flip vr (f c) ha)
-          go (same z) = no-turn (cross vr vl) (dot vl (f c) +ℤ dot vr (f c)) (cross (f c) vl) (dot vl vr +ℤ dot vr vr) (cross vr (f c)) (dot vl vl +ℤ dot vr vl) (cone-product vl vr (f c)) z hb mr ha ml
+          go (less h) = around (k .r) (k .l) c (List·Memᴰ·tail (k .r-in)) (List·Memᴰ·tail (k .l-in)) (List·Memᴰ·head refl) h (flip (f c) vl hb)
+              (flip vr (f c) ha)
+          go (same z) = no-turn (cross vr vl) (dot vl (f c) +ℤ dot vr (f c)) (cross (f c) vl) (dot vl vr +ℤ dot vr vr) (cross vr (f c))
+              (dot vl vl +ℤ dot vr vl) (cone-product vl vr (f c)) z hb mr ha ml
           go (more h) = <-≤-clash h turn-nn
 
       one-more-arm : Placed (c ∷ ps)

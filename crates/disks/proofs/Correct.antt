@@ -1,8 +1,10 @@
--- Welzl's theorem: the procedure ends on the strongly minimal disk. Assumes nothing.
---     Found P R F        F is strongly minimal for (P, R); or both are empty and F is the empty disk
---     Ran k R P s        what holds of the result s of a run on P with R fixed and room for k more
--- Proved: `run-right`, Ran of every run for which some disk is feasible and whose R has at most three points and none twice, and
--- `run-strong`, that its disk is strongly minimal unless there is no point at all; `mtf-ran` and `mtf-strong`, the same from no point fixed.
+-- Welzl's theorem for the lifted procedure: it ends on the strongly minimal disk.
+--
+--   Found P R F        == F is strongly minimal for (P, R); or both are empty and F is the empty disk
+--   Ran k R P s        == what holds of the result s of a run on P with R fixed and room for k more: disk, list left, count
+--   run-ran, run-right : Ran of every run for which some disk is feasible and whose R has at most three points, none twice
+--   run-strong         : its disk is strongly minimal, unless there is no point at all
+--   mtf-ran, mtf-strong : the same from no point fixed, where a large disk is feasible
 use mathlib.Core.Path.{_≡_, refl, sym, _∙_, ap, subst}
 use mathlib.Core.Logic.{_⊎_, inl, inr}
 use mathlib.Core.Bool.{Bool, true, false, not}
@@ -18,7 +20,7 @@ use Rattle.integers.specs.Ring.{poly}
 use Rattle.integers.specs.Order.{≤-of-eq, ≤-trans, nonneg, nn, sq, le, _⊞_, <-≤-clash}
 use Rattle.geometry.specs.declared.Point.{Point}
 use Rattle.disks.proofs.Lifted.{Lifted, value, noDisk, value-none}
-use Rattle.disks.proofs.Minimal.{In, Feasible, StronglyMinimal, Below, Same, same-sym, feasible-same, strong-same, strong-below, none-below, through, to-rim, step, held}
+use Rattle.disks.proofs.Minimal.{In, Feasible, StronglyMinimal, Below, Same, same-sym, feasible-same, strong-same, strong-below, none-below, through, to-boundary, step, held}
 use Rattle.disks.proofs.Base.{point-strong, pair-strong, positive-one}
 use Rattle.disks.proofs.Triple.{Different, triple-strong}
 use Rattle.disks.proofs.LiftedProcedure.{State, rimDisk, outside, tested, turn-at, one-by-one, start, runWith, run, mtf, most}
@@ -76,7 +78,7 @@ Right k = (R P : List Point) (W : Lifted) → Feasible P R W → Different R →
 
 -- a point outside is none of R
 outside-new : {P R : List Point} {F : Lifted} {p : Point} → Below P R F → pos 0 <ℤ value F p → In p R → ⊥
-outside-new {p} h out m = <-≤-clash out (≤-of-eq (h .rim p m))
+outside-new {p} h out m = <-≤-clash out (≤-of-eq (h .on-boundary p m))
 
 most-next : (k n : ℕ) → most (suc k) (n + 1) ≡ most (suc k) n + 1 + most k n
 unfolding most
@@ -85,7 +87,8 @@ most-next k n = ap (most (suc k)) (add-one n)
 most-last : (k : ℕ) (Q : List Point) (p : Point) → most (suc k) (length (Q ++ (p ∷ []))) ≡ most (suc k) (length Q) + 1 + most k (length Q)
 most-last k Q p = ap (most (suc k)) (length-append Q (p ∷ [])) ∙ most-next k (length Q)
 
-module _ (k : ℕ) (R Q : List Point) (p : Point) (s : State) (W : Lifted) (right : Right k) (size : length R + suc k ≡ 3) (d : Different R) (f : Feasible (Q ++ (p ∷ [])) R W) (r : Ran (suc k) R Q s) where
+module _ (k : ℕ) (R Q : List Point) (p : Point) (s : State) (W : Lifted)
+    (right : Right k) (size : length R + suc k ≡ 3) (d : Different R) (f : Feasible (Q ++ (p ∷ [])) R W) (r : Ran (suc k) R Q s) where
   same-last : Same (p ∷ Q) (Q ++ (p ∷ []))
   same-last = same-sym (perm-same (last-first Q p))
 
@@ -100,7 +103,8 @@ module _ (k : ℕ) (R Q : List Point) (p : Point) (s : State) (W : Lifted) (righ
 
   -- p is outside: what the inner run asks
   pub inner-feasible : pos 0 <ℤ value (s .disk) p → Feasible (s .left) (p ∷ R) (through (s .disk) p W)
-  inner-feasible out = feasible-same (same-sym (perm-same (r .left-permuted))) (to-rim (found-below (r .disk-found)) out (feasible-same (same-sym same-last) f))
+  inner-feasible out = feasible-same (same-sym (perm-same (r .left-permuted)))
+      (to-boundary (found-below (r .disk-found)) out (feasible-same (same-sym same-last) f))
 
   pub inner-different : pos 0 <ℤ value (s .disk) p → Different (p ∷ R)
   inner-different out = ((λ m. outside-new (found-below (r .disk-found)) out m), d)
@@ -119,25 +123,32 @@ module _ (k : ℕ) (R Q : List Point) (p : Point) (s : State) (W : Lifted) (righ
   turn-outside out = let i = inner-ran out in record {
     disk-found = found (strong-same same-last (step (found-below (r .disk-found)) out (strong-same (perm-same (r .left-permuted)) (inner-strong i))));
     left-permuted = List·Permᴰ·trans (List·Permᴰ·cons refl (List·Permᴰ·trans (i .left-permuted) (r .left-permuted))) (Permᴰ·symm (last-first Q p));
-    count-most = rw most-last (omega (arith, r .count-most, subst (λ (n : ℕ). runWith k (p ∷ R) (s .left) .count ≤ most k n) (perm-length (r .left-permuted)) (i .count-most)));
+    count-most = rw most-last (omega (
+      arith,
+      r .count-most,
+      subst (λ (n : ℕ). runWith k (p ∷ R) (s .left) .count ≤ most k n)
+          (perm-length (r .left-permuted)) (i .count-most),
+    ));
   }
 
   pub turn-ran : Ran (suc k) R (Q ++ (p ∷ [])) (turn-at (runWith k) R s p)
   unfolding turn-at outside
   turn-ran = go (ltZ (pos 0) (value (s .disk) p)) (λ t. record { lt = t }) (λ t. ltZ-no t)
     where
-      go : (b : Bool) → (T b → pos 0 <ℤ value (s .disk) p) → (T (not b) → value (s .disk) p ≤ℤ pos 0) → Ran (suc k) R (Q ++ (p ∷ [])) (tested b s p (runWith k (p ∷ R) (s .left)))
+      go : (b : Bool) → (T b → pos 0 <ℤ value (s .disk) p) → (T (not b) → value (s .disk) p ≤ℤ pos 0)
+          → Ran (suc k) R (Q ++ (p ∷ [])) (tested b s p (runWith k (p ∷ R) (s .left)))
       go true out in′ = turn-outside (out tt)
       go false out in′ = turn-held (in′ tt) (runWith k (p ∷ R) (s .left))
 
 -- a part of what is held is held
 pub feasible-front : (Q S : List Point) {R : List Point} {W : Lifted} → Feasible (Q ++ S) R W → Feasible Q R W
-feasible-front Q S f = record { proper = f .proper; holds = λ q m. f .holds q (Memᴰ·append-left S m); rim = f .rim }
+feasible-front Q S f = record { proper = f .proper; holds = λ q m. f .holds q (Memᴰ·append-left S m); on-boundary = f .on-boundary }
 
 pub next : (Q ps : List Point) (p : Point) → (Q ++ (p ∷ [])) ++ ps ≡ Q ++ (p ∷ ps)
 next Q ps p = append-assoc Q (p ∷ []) ps
 
-one-by-one-ran : (k : ℕ) (R Q ps : List Point) (s : State) (W : Lifted) → Right k → length R + suc k ≡ 3 → Different R → Feasible (Q ++ ps) R W → Ran (suc k) R Q s
+one-by-one-ran : (k : ℕ) (R Q ps : List Point) (s : State) (W : Lifted) → Right k → length R + suc k ≡ 3 → Different R → Feasible (Q ++ ps) R W
+    → Ran (suc k) R Q s
     → Ran (suc k) R (Q ++ ps) (one-by-one (turn-at (runWith k) R) s ps)
 unfolding one-by-one
 one-by-one-ran k R Q [] s W right size d f r = record {
@@ -145,7 +156,8 @@ one-by-one-ran k R Q [] s W right size d f r = record {
   left-permuted = subst (λ (P : List Point). List·Permᴰ (s .left) P) (sym (append-nil Q)) (r .left-permuted);
   count-most = subst (λ (P : List Point). s .count ≤ most (suc k) (length P)) (sym (append-nil Q)) (r .count-most);
 }
-one-by-one-ran k R Q (p ∷ ps) s W right size d f r = subst (λ (P : List Point). Ran (suc k) R P (one-by-one (turn-at (runWith k) R) (turn-at (runWith k) R s p) ps)) (next Q ps p)
+one-by-one-ran k R Q (p ∷ ps) s W right size d f r = subst
+    (λ (P : List Point). Ran (suc k) R P (one-by-one (turn-at (runWith k) R) (turn-at (runWith k) R s p) ps)) (next Q ps p)
     (one-by-one-ran k R (Q ++ (p ∷ [])) ps (turn-at (runWith k) R s p) W right size d (at-next f)
     (turn-ran k R Q p s W right size d (feasible-front (Q ++ (p ∷ [])) ps (at-next f)) r))
   where
@@ -163,7 +175,8 @@ run-ran (suc k) R P W f d size = one-by-one-ran k R [] P (start R []) W (run-ran
 pub run-right : (R P : List Point) (W : Lifted) → length R ≤ 3 → Different R → Feasible P R W → Ran (3 - length R) R P (run R P)
 run-right R P W h d f = run-ran (3 - length R) R P W f d (omega arith)
 
-pub run-strong : (R P : List Point) (W : Lifted) → length R ≤ 3 → 1 ≤ length P + length R → Different R → Feasible P R W → StronglyMinimal P R (run R P .disk)
+pub run-strong : (R P : List Point) (W : Lifted) → length R ≤ 3 → 1 ≤ length P + length R → Different R → Feasible P R W
+    → StronglyMinimal P R (run R P .disk)
 run-strong R P W h some d f = found-strong (run-right R P W h d f .disk-found) some
 
 -- ---- from no point fixed: a large disk is a witness
@@ -187,7 +200,8 @@ reach-in [] p m = absurd (List·Memᴰ·not-nil m)
 reach-in (q ∷ P) p m = go (λ k. reach-in P p k) (List·Memᴰ·cases-cons m)
   where
     go : (In p P → (p .x *ℤ p .x +ℤ p .y *ℤ p .y) ≤ℤ reach P) → (p ≡ q) ⊎ In p P → (p .x *ℤ p .x +ℤ p .y *ℤ p .y) ≤ℤ reach (q ∷ P)
-    go ih (inl e) = subst (λ (r : Point). (r .x *ℤ r .x +ℤ r .y *ℤ r .y) ≤ℤ reach (q ∷ P)) (sym e) (more-left (q .x *ℤ q .x +ℤ q .y *ℤ q .y) (reach P) (reach-nn P))
+    go ih (inl e) = subst (λ (r : Point). (r .x *ℤ r .x +ℤ r .y *ℤ r .y) ≤ℤ reach (q ∷ P)) (sym e)
+        (more-left (q .x *ℤ q .x +ℤ q .y *ℤ q .y) (reach P) (reach-nn P))
     go ih (inr k) = ≤-trans (ih k) (more-right (q .x *ℤ q .x +ℤ q .y *ℤ q .y) (reach P) (sq (q .x) ⊞ sq (q .y)))
 
 abbrev large : List Point → Lifted
@@ -197,7 +211,12 @@ large-value : (a b r : ℤ) → (a *ℤ a +ℤ b *ℤ b) ≤ℤ r → (pos 1 *�
 large-value a b r h = nonneg (a ∷ b ∷ r ∷ []) (le h) (search poly depth 30) tt
 
 pub large-feasible : (P : List Point) → Feasible P [] (large P)
-large-feasible P = record { proper = positive-one; holds = λ p m. large-value (p .x) (p .y) (reach P) (reach-in P p m); rim = λ q m. absurd (List·Memᴰ·not-nil m) }
+large-feasible P = record {
+  proper = positive-one;
+  holds = λ p m. large-value (p .x) (p .y) (reach P) (reach-in P p m);
+  on-boundary = λ q m. absurd
+      (List·Memᴰ·not-nil m);
+}
 
 pub mtf-ran : (P : List Point) → Ran 3 [] P (mtf P)
 mtf-ran P = run-ran 3 [] P (large P) (large-feasible P) tt refl

@@ -1,5 +1,7 @@
--- The count of tests. Assumes nothing.
--- Proved: `most` in closed form, n for room 1, n(n + 1)/2 for room 2, (n³ + 5n)/6 for room 3; so the procedure's count is at most (n³ + 5n)/6 (`mtf-count`).
+-- The count of tests.
+--
+--   most-three     : `most` for room 3 is (n³ + 5n)/6, from n for room 1 and n(n + 1)/2 for room 2
+--   mtf-count      : so the procedure's count is at most that
 use mathlib.Core.Path.{_≡_, refl}
 use mathlib.Core.List.{List}
 use Prim.Native.Nat.{ℕ, zero, suc, _+_, _*_, _≤_}

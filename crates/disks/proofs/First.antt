@@ -3,6 +3,8 @@
 --   own-supports, supports-own : the test of specs/ decides whether a set's own smallest disk is that of P
 --   Passes t cs S              == S is the first of cs that passes t
 --   Candidate Q S              == S is one to three points of Q, rising
+--   candidate, a-candidate     : the candidates of a rising list are these sets
+--   candidates-earlier         : each of them comes before all later ones
 --   earlier-asym               : no two sets come before one another
 --   first-support              : IsFirstSupport P (firstSupport P), for every P of at least one point
 --   first-support-same         : lists with the same points have the same first support set
@@ -10,7 +12,7 @@ use mathlib.Core.Path.{_≡_, refl, sym, _∙_, ap, subst}
 use mathlib.Core.Logic.{_⊎_, inl, inr}
 use mathlib.Core.Bool.{Bool, true, false, _&&_}
 use mathlib.Core.List.{List, [], _∷_, _++_, List·Memᴰ·head, List·Memᴰ·tail, List·Memᴰ·cases-cons, List·Memᴰ·not-nil, List·Memᴰ·append-cases, Memᴰ·append-left, Memᴰ·append-right}
-use Prim.Native.Nat.{ℕ, suc, _≤_, _<_}
+use Prim.Native.Nat.{ℕ, suc, _≤_}
 use native.Mathlib.Omega.{arith}
 use lib.Dec.{T, eqb, eqb→eq, eqb-refl}
 use lib.ListN.{length}
@@ -21,8 +23,8 @@ use Rattle.disks.specs.Smallest.{In, Same, Smallest}
 use Rattle.disks.specs.Procedure.{diskOf}
 use Rattle.geometry.specs.Order.{eqZ}
 use Rattle.disks.specs.Support.{sorted, choose, sameDisk, supports, firstOf, firstSupport}
+pub use Rattle.disks.specs.Support.{candidates}
 use Rattle.disks.specs.FirstSupport.{Rising, IsSupport, Lexical, here, there, Earlier, fewer, lexical, IsFirstSupport}
-use Rattle.disks.proofs.Lifted.{Lifted}
 use Rattle.disks.proofs.Minimal.{same-refl, same-sym, strong-same}
 use Rattle.disks.proofs.LiftedProcedure.{mtf}
 use Rattle.disks.proofs.Correct.{mtf-strong}
@@ -30,7 +32,7 @@ use Rattle.disks.proofs.Support.{SupportSet, Supported, one, two, three
 use Rattle.disks.proofs.Bridge.{strong-written, diskOf-lowered}
 use Rattle.disks.proofs.StrongSmallest.{strong-smallest}
 use Rattle.disks.proofs.OneWriting.{smallest-same}
-use Rattle.disks.proofs.Welzl.{smallest, disk-same}
+use Rattle.disks.proofs.Welzl.{smallest}
 use Rattle.disks.proofs.Rising.{both, eqZ-eq, eq-eqZ, before-trans, before-not-equal, sorted-rises, sorted-same, sorted-length}
 use Rattle.disks.proofs.Choose.{Among, choose-length, choose-in, choose-rises, choose-all, Later, later-append, choose-lexical}
 
@@ -52,7 +54,13 @@ earlier-asym (lexical e h) (lexical f k) = lexical-asym h k
 
 same-disk-eq : (c d : Disk) → T (sameDisk c d) → c ≡ d
 unfolding sameDisk
-same-disk-eq c d t = λ i. record { x = eqZ-eq (c .x) (d .x) (and-left x (y && (e && s)) t) i; y = eqZ-eq (c .y) (d .y) (and-left y (e && s) rest) i; e = eqb→eq (c .e) (d .e) (and-left e s last) i; s = eqb→eq (c .s) (d .s) (and-right e s last) i }
+same-disk-eq c d t = λ i. record {
+  x = eqZ-eq (c .x) (d .x) (and-left x (y && (e && s)) t) i;
+  y = eqZ-eq (c .y) (d .y)
+      (and-left y (e && s) rest) i;
+  e = eqb→eq (c .e) (d .e) (and-left e s last) i;
+  s = eqb→eq (c .s) (d .s) (and-right e s last) i;
+}
   where
     x : Bool
     x = eqZ (c .x) (d .x)
@@ -75,7 +83,8 @@ same-disk-eq c d t = λ i. record { x = eqZ-eq (c .x) (d .x) (and-left x (y && (
 same-disk-refl : (d : Disk) → T (sameDisk d d)
 unfolding sameDisk
 same-disk-refl d = both (eqZ (d .x) (d .x)) (eqZ (d .y) (d .y) && (eqb (d .e) (d .e) && eqb (d .s) (d .s))) (eq-eqZ (d .x) (d .x) refl)
-    (both (eqZ (d .y) (d .y)) (eqb (d .e) (d .e) && eqb (d .s) (d .s)) (eq-eqZ (d .y) (d .y) refl) (both (eqb (d .e) (d .e)) (eqb (d .s) (d .s)) (eqb-refl (d .e)) (eqb-refl (d .s))))
+    (both (eqZ (d .y) (d .y)) (eqb (d .e) (d .e) && eqb (d .s) (d .s)) (eq-eqZ (d .y) (d .y) refl)
+    (both (eqb (d .e) (d .e)) (eqb (d .s) (d .s)) (eqb-refl (d .e)) (eqb-refl (d .s))))
 
 no-points : 1 ≤ 0 → ⊥
 no-points h = omega arith
@@ -88,7 +97,8 @@ supports-own P (q ∷ S) h t = subst (Smallest (q ∷ S)) (same-disk-eq (diskOf 
 pub own-supports : (P S : List Point) → 1 ≤ length S → Smallest S (diskOf P) → T (supports P S)
 unfolding supports
 own-supports P [] h m = absurd (no-points h)
-own-supports P (q ∷ S) h m = subst (λ (d : Disk). T (sameDisk (diskOf (q ∷ S)) d)) (smallest-same (same-refl (q ∷ S)) (same-refl []) (smallest q S) m) (same-disk-refl (diskOf (q ∷ S)))
+own-supports P (q ∷ S) h m = subst (λ (d : Disk). T (sameDisk (diskOf (q ∷ S)) d)) (smallest-same (same-refl (q ∷ S)) (same-refl []) (smallest q S) m)
+    (same-disk-refl (diskOf (q ∷ S)))
 
 -- ---- the first that passes
 
@@ -105,7 +115,8 @@ pub record Passes (t : List Point → Bool) (cs : List (List Point)) (S : List P
   pub passes : T (t S)
   pub least : (R : List Point) → Among R cs → T (t R) → (R ≡ S) ⊎ Earlier S R
 
-pub first-passes : (t : List Point → Bool) (cs : List (List Point)) → Later Earlier cs → (R : List Point) → Among R cs → T (t R) → Passes t cs (firstOf t cs)
+pub first-passes : (t : List Point → Bool) (cs : List (List Point)) → Later Earlier cs → (R : List Point) → Among R cs → T (t R)
+    → Passes t cs (firstOf t cs)
 first-passes t [] l R i h = absurd (List·Memᴰ·not-nil i)
 first-passes t (S ∷ cs) l R i h = go (λ j. first-passes t cs (l .1) R j h) (t S) refl (List·Memᴰ·cases-cons i)
   where
@@ -113,7 +124,8 @@ first-passes t (S ∷ cs) l R i h = go (λ j. first-passes t cs (l .1) R j h) (t
     here-first A (inl k) = inl k
     here-first A (inr j) = inr (l .0 A j)
 
-    later-first : t S ≡ false → Passes t cs (firstOf t cs) → (A : List Point) → T (t A) → (A ≡ S) ⊎ Among A cs → (A ≡ firstOf t cs) ⊎ Earlier (firstOf t cs) A
+    later-first : t S ≡ false → Passes t cs (firstOf t cs) → (A : List Point) → T (t A) → (A ≡ S) ⊎ Among A cs
+        → (A ≡ firstOf t cs) ⊎ Earlier (firstOf t cs) A
     later-first e p A k (inl f) = absurd (subst T (ap t f ∙ e) k)
     later-first e p A k (inr j) = p .least A j k
 
@@ -121,21 +133,33 @@ first-passes t (S ∷ cs) l R i h = go (λ j. first-passes t cs (l .1) R j h) (t
     later e p = record { among = List·Memᴰ·tail (p .among); passes = p .passes; least = λ A j k. later-first e p A k (List·Memᴰ·cases-cons j) }
 
     go : (Among R cs → Passes t cs (firstOf t cs)) → (b : Bool) → t S ≡ b → (R ≡ S) ⊎ Among R cs → Passes t (S ∷ cs) (firstOf t (S ∷ cs))
-    go f true e c = subst (Passes t (S ∷ cs)) (sym (first-yes t S cs e)) (record { among = List·Memᴰ·head refl; passes = subst T (sym e) tt; least = λ A j k. here-first A (List·Memᴰ·cases-cons j) })
+    go f true e c = subst (Passes t (S ∷ cs)) (sym (first-yes t S cs e))
+        (record { among = List·Memᴰ·head refl; passes = subst T (sym e) tt; least = λ A j k. here-first A (List·Memᴰ·cases-cons j) })
     go f false e (inl k) = absurd (subst T (ap t k ∙ e) h)
     go f false e (inr j) = subst (Passes t (S ∷ cs)) (sym (first-no t S cs e)) (later e (f j))
 
 -- ---- the candidates
 
-abbrev candidates : List Point → List (List Point)
-candidates Q = choose 1 Q ++ (choose 2 Q ++ choose 3 Q)
-
 lexical-earlier : (k : ℕ) (cs : List (List Point)) → ((S : List Point) → Among S cs → length S ≡ k) → Later Lexical cs → Later Earlier cs
 lexical-earlier k [] f l = tt
-lexical-earlier k (S ∷ cs) f l = (λ R i. lexical (f S (List·Memᴰ·head refl) ∙ sym (f R (List·Memᴰ·tail i))) (l .0 R i), lexical-earlier k cs (λ R i. f R (List·Memᴰ·tail i)) (l .1))
+lexical-earlier k (S ∷ cs) f l = (
+  λ R i. lexical (f S (List·Memᴰ·head refl) ∙ sym (f R (List·Memᴰ·tail i))) (l .0 R i),
+  lexical-earlier k cs
+      (λ R i. f R (List·Memᴰ·tail i)) (l .1),
+)
 
 chosen-earlier : (k : ℕ) (Q : List Point) → Rising Q → Later Earlier (choose k Q)
 chosen-earlier k Q r = lexical-earlier k (choose k Q) (choose-length k Q) (choose-lexical k Q r)
+
+pub candidates-earlier : (Q : List Point) → Rising Q → Later Earlier (candidates Q)
+candidates-earlier Q r = later-append Earlier (choose 1 Q) (choose 2 Q ++ choose 3 Q) (chosen-earlier 1 Q r)
+    (later-append Earlier (choose 2 Q) (choose 3 Q) (chosen-earlier 2 Q r) (chosen-earlier 3 Q r)
+    (λ S R i j. fewer (omega (arith, choose-length 2 Q S i, choose-length 3 Q R j))))
+    (λ S R i j. one-first S R i (List·Memᴰ·append-cases (choose 2 Q) j))
+  where
+    one-first : (S R : List Point) → Among S (choose 1 Q) → Among R (choose 2 Q) ⊎ Among R (choose 3 Q) → Earlier S R
+    one-first S R i (inl j) = fewer (omega (arith, choose-length 1 Q S i, choose-length 2 Q R j))
+    one-first S R i (inr j) = fewer (omega (arith, choose-length 1 Q S i, choose-length 3 Q R j))
 
 pub record Candidate (Q S : List Point) : Type 0 where
   pub rises : Rising S
@@ -144,9 +168,10 @@ pub record Candidate (Q S : List Point) : Type 0 where
   pub most : length S ≤ 3
 
 chosen : (k : ℕ) (Q S : List Point) → Rising Q → 1 ≤ k → k ≤ 3 → Among S (choose k Q) → Candidate Q S
-chosen k Q S r h l i = let e : length S ≡ k = choose-length k Q S i in record { rises = choose-rises k Q r S i; members = choose-in k Q S i; some = omega arith; most = omega arith }
+chosen k Q S r h l i = let e : length S
+    ≡ k = choose-length k Q S i in record { rises = choose-rises k Q r S i; members = choose-in k Q S i; some = omega arith; most = omega arith }
 
-candidate : (Q S : List Point) → Rising Q → Among S (candidates Q) → Candidate Q S
+pub candidate : (Q S : List Point) → Rising Q → Among S (candidates Q) → Candidate Q S
 candidate Q S r i = go (List·Memᴰ·append-cases (choose 1 Q) i)
   where
     end : Among S (choose 2 Q) ⊎ Among S (choose 3 Q) → Candidate Q S
@@ -157,24 +182,16 @@ candidate Q S r i = go (List·Memᴰ·append-cases (choose 1 Q) i)
     go (inl j) = chosen 1 Q S r (omega arith) (omega arith) j
     go (inr j) = end (List·Memᴰ·append-cases (choose 2 Q) j)
 
-a-candidate : (Q S : List Point) → Rising Q → Candidate Q S → Among S (candidates Q)
+pub a-candidate : (Q S : List Point) → Rising Q → Candidate Q S → Among S (candidates Q)
 a-candidate Q [] r c = absurd (no-points (c .some))
 a-candidate Q (a ∷ []) r c = Memᴰ·append-left (choose 2 Q ++ choose 3 Q) (choose-all Q r (a ∷ []) (c .rises) (c .members))
 a-candidate Q (a ∷ b ∷ []) r c = Memᴰ·append-right (choose 1 Q) (Memᴰ·append-left (choose 3 Q) (choose-all Q r (a ∷ b ∷ []) (c .rises) (c .members)))
-a-candidate Q (a ∷ b ∷ d ∷ []) r c = Memᴰ·append-right (choose 1 Q) (Memᴰ·append-right (choose 2 Q) (choose-all Q r (a ∷ b ∷ d ∷ []) (c .rises) (c .members)))
+a-candidate Q (a ∷ b ∷ d ∷ []) r c = Memᴰ·append-right (choose 1 Q)
+    (Memᴰ·append-right (choose 2 Q) (choose-all Q r (a ∷ b ∷ d ∷ []) (c .rises) (c .members)))
 a-candidate Q (a ∷ b ∷ d ∷ e ∷ S) r c = absurd (no (length S) (c .most))
   where
     no : (n : ℕ) → suc (suc (suc (suc n))) ≤ 3 → ⊥
     no n h = omega arith
-
-candidates-earlier : (Q : List Point) → Rising Q → Later Earlier (candidates Q)
-candidates-earlier Q r = later-append Earlier (choose 1 Q) (choose 2 Q ++ choose 3 Q) (chosen-earlier 1 Q r) (later-append Earlier (choose 2 Q) (choose 3 Q) (chosen-earlier 2 Q r) (chosen-earlier 3 Q r)
-    (λ S R i j. fewer (omega (arith, choose-length 2 Q S i, choose-length 3 Q R j))))
-    (λ S R i j. one-first S R i (List·Memᴰ·append-cases (choose 2 Q) j))
-  where
-    one-first : (S R : List Point) → Among S (choose 1 Q) → Among R (choose 2 Q) ⊎ Among R (choose 3 Q) → Earlier S R
-    one-first S R i (inl j) = fewer (omega (arith, choose-length 1 Q S i, choose-length 2 Q R j))
-    one-first S R i (inr j) = fewer (omega (arith, choose-length 1 Q S i, choose-length 3 Q R j))
 
 -- ---- the first set
 
@@ -201,7 +218,9 @@ module _ (p : Point) (P : List Point) where
         some = long;
         most = omega (arith, sorted-length S, h);
       }))
-      (own-supports L (sorted S) long (subst (Smallest (sorted S)) (sym (diskOf-lowered p P)) (strong-smallest (strong-same (sorted-same S) (s .own)) (strong-written (mtf-strong p P)))))
+      (own-supports L (sorted S) long
+      (subst (Smallest (sorted S)) (sym (diskOf-lowered p P))
+      (strong-smallest (strong-same (sorted-same S) (s .own)) (strong-written (mtf-strong p P)))))
     where
       long : 1 ≤ length (sorted S)
       long = not-empty (sorted S) (sorted-same S .to a i)
@@ -223,7 +242,9 @@ module _ (p : Point) (P : List Point) where
       whole = smallest p P;
       own = supports-own L found (c .some) (f .passes);
     };
-    first = λ R s. f .least R (a-candidate (sorted L) R (sorted-rises L) (record { rises = s .rises; members = to-sorted R (s .members); some = s .some; most = s .most })) (own-supports L R (s .some) (own-disk R s));
+    first = λ R s. f .least R (a-candidate (sorted L) R (sorted-rises L)
+        (record { rises = s .rises; members = to-sorted R (s .members); some = s .some; most = s .most }))
+        (own-supports L R (s .some) (own-disk R s));
   }
     where
       f : Passes (supports L) (candidates (sorted L)) found
@@ -250,7 +271,8 @@ support-of-same {d} e m s = record {
 }
 
 pub first-unique : {P Q S R : List Point} → Same P Q → IsFirstSupport P S → IsFirstSupport Q R → S ≡ R
-first-unique {P} {Q} {S} {R} e s r = go (s .first R (support-of-same (same-sym e) (s .supports .whole) (r .supports))) (r .first S (support-of-same e (r .supports .whole) (s .supports)))
+first-unique {P} {Q} {S} {R} e s r = go (s .first R (support-of-same (same-sym e) (s .supports .whole) (r .supports)))
+    (r .first S (support-of-same e (r .supports .whole) (s .supports)))
   where
     go : (R ≡ S) ⊎ Earlier S R → (S ≡ R) ⊎ Earlier R S → S ≡ R
     go (inl k) h = sym k

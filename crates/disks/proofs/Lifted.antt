@@ -1,11 +1,13 @@
--- Points of the plane, and disks lifted to forms that are linear. Assumes nothing.
---     Lifted                  a disk (or any form) E, X, Y, K
---     value F p               E·|p|² - 2(X·x + Y·y) + K: not positive where the disk holds p, zero on its rim
---     squaredRadius F         S = X² + Y² - E·K, the squared radius times E²
---     gap F F'                E·(2(X·X' + Y·Y') - E·K') - E'·(2(X² + Y²) - E·K): E²E' times r'² - r² - |c - c'|²
---     combine b F a F'        b·F + a·F', Welzl's disk D_λ with no fraction
---     noDisk                  the empty disk, (0, 0, 0, 1): every point is outside it
--- Proved: value and gap are linear in the (second) form; the gap of a form to itself is zero; the two gaps of two forms.
+-- Disks lifted to forms that are linear: (E, X, Y, K), with S = X² + Y² − E·K.
+--
+--   Lifted             == a disk, or any form, by its four numbers
+--   value F p          == E·|p|² − 2(X·x + Y·y) + K: not positive where the disk holds p, zero on its boundary
+--   squaredRadius F    == S, the squared radius times E²
+--   gap F G            == E²E' times (r'² − r² − |c − c'|²), for the radii r, r' and centres c, c' of F and G
+--   combine b F a G    == b·F + a·G, the disk D_λ of 000 with no fraction
+--   noDisk             == the empty disk, (0, 0, 0, 1): every point is outside it
+--   value-combine, gap-combine : value and gap are linear in the (second) form
+--   gap-self, gap-both : the gap of a form to itself is zero; the two gaps of two forms
 use mathlib.Core.Path.{_≡_}
 use mathlib.Core.List.{[], _∷_}
 use lib.IntN.{ℤ, pos, negℤ, _+ℤ_, _-ℤ_, _*ℤ_}
@@ -26,7 +28,8 @@ abbrev pub squaredRadius : Lifted → ℤ
 squaredRadius F = F .cx *ℤ F .cx +ℤ F .cy *ℤ F .cy -ℤ F .e *ℤ F .k
 
 abbrev pub gap : Lifted → Lifted → ℤ
-gap F G = F .e *ℤ (pos 2 *ℤ (F .cx *ℤ G .cx +ℤ F .cy *ℤ G .cy) -ℤ F .e *ℤ G .k) -ℤ G .e *ℤ (pos 2 *ℤ (F .cx *ℤ F .cx +ℤ F .cy *ℤ F .cy) -ℤ F .e *ℤ F .k)
+gap F G = F .e *ℤ (pos 2 *ℤ (F .cx *ℤ G .cx +ℤ F .cy *ℤ G .cy) -ℤ F .e *ℤ G .k)
+    -ℤ G .e *ℤ (pos 2 *ℤ (F .cx *ℤ F .cx +ℤ F .cy *ℤ F .cy) -ℤ F .e *ℤ F .k)
 
 abbrev pub combine : ℤ → Lifted → ℤ → Lifted → Lifted
 combine b F a G = record { e = b *ℤ F .e +ℤ a *ℤ G .e; cx = b *ℤ F .cx +ℤ a *ℤ G .cx; cy = b *ℤ F .cy +ℤ a *ℤ G .cy; k = b *ℤ F .k +ℤ a *ℤ G .k }
@@ -40,7 +43,8 @@ pub value-combine : (b : ℤ) (F : Lifted) (a : ℤ) (G : Lifted) (p : Point) �
 value-combine b F a G p = ring (b ∷ a ∷ F .e ∷ F .cx ∷ F .cy ∷ F .k ∷ G .e ∷ G .cx ∷ G .cy ∷ G .k ∷ p .x ∷ p .y ∷ []) (search poly depth 30) tt
 
 pub gap-combine : (H : Lifted) (b : ℤ) (F : Lifted) (a : ℤ) (G : Lifted) → gap H (combine b F a G) ≡ b *ℤ gap H F +ℤ a *ℤ gap H G
-gap-combine H b F a G = ring (b ∷ a ∷ F .e ∷ F .cx ∷ F .cy ∷ F .k ∷ G .e ∷ G .cx ∷ G .cy ∷ G .k ∷ H .e ∷ H .cx ∷ H .cy ∷ H .k ∷ []) (search poly depth 30) tt
+gap-combine H b F a G = ring (b ∷ a ∷ F .e ∷ F .cx ∷ F .cy ∷ F .k ∷ G .e ∷ G .cx ∷ G .cy ∷ G .k ∷ H .e ∷ H .cx ∷ H .cy ∷ H .k ∷ [])
+    (search poly depth 30) tt
 
 -- ---- the gap
 

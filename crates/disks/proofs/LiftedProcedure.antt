@@ -1,7 +1,9 @@
--- B_MTFDISK of Welzl on a list of points, with its count of tests and the list that it leaves. Assumes nothing: these are definitions.
---     rimDisk R        the smallest disk with R on its rim, for R of no point to three
---     outside F p      the test
---     run R P          disk, count and list of the procedure on P with R fixed on the rim; `mtf P` from no point fixed
+-- The procedure of specs/ over lifted disks, where a test is one sign. Bridge.antt says that the two agree.
+--
+--   rimDisk R            == the lifted disk with R on its boundary, for R of none to three points
+--   outside F p          == the test: value F p is positive
+--   runWith k R P        == disk, count and list of the procedure on P with R fixed and room for k more; `mtf P` from no point fixed
+--   most k n             == the most tests that a run with room for k can make on n points
 use Prim.Native.Nat.{ℕ, zero, suc, _+_, _-_}
 use mathlib.Core.Bool.{Bool, true, false}
 use mathlib.Core.List.{List, [], _∷_, _++_}

@@ -1,8 +1,10 @@
--- How large the numbers of a smallest disk can be. Assumes nothing.
---     Box x0 y0 l p         p lies in the square with the corner (x0, y0) and side l
---     BoxLimits x0 y0 l F   the centre lies in that square, and S/E² is at most l²/2
--- Proved: a half plane that has all points has the centre (`centre-side`); so a smallest disk of points of the square has these limits (`box-limits`);
--- twice the area of a triangle in a square is at most the square (`turn-bound`), so E is at most twice the square (`triple-weight`).
+-- How large the numbers of a smallest disk of points in a square can be.
+--
+--   Box x0 y0 l p         == p lies in the square with lower left (x0, y0) and side l
+--   BoxLimits x0 y0 l F   == the centre lies in that square, and S/E² is at most l²/2
+--   centre-side           : a half plane that has all points has the centre
+--   box-limits            : so a strongly minimal disk of points of the square has these limits
+--   turn-bound, triple-weight : twice the area of a triangle in a square is at most the square, so E is at most twice the square
 use mathlib.Core.Path.{_≡_, sym, _∙_, ap, subst}
 use mathlib.Core.Logic.{_⊎_, inl, inr}
 use mathlib.Core.Bool.{Bool, true, false}
@@ -39,7 +41,8 @@ push-weight : (n e : ℤ) → pos 0 <ℤ n → pos 0 <ℤ e → pos 0 <ℤ (n *�
 push-weight n e hn he = positive (n ∷ e ∷ []) (lt hn ⊠ lt he ⊞ lt hn ⊞ lt he) (search poly depth 30) tt
 
 push-holds : (n w m a t : ℤ) → pos 0 <ℤ n → w ≤ℤ pos 0 → m <ℤ pos 0 → t ≤ℤ a → (n *ℤ w +ℤ pos 1 *ℤ (pos 2 *ℤ (m *ℤ (a -ℤ t)))) ≤ℤ pos 0
-push-holds n w m a t hn hw hm ha = nonneg (n ∷ w ∷ m ∷ a ∷ t ∷ []) (le (≤-of-< hn) ⊠ le hw ⊞ nn 2 ⊠ (le (≤-of-< hm) ⊠ le ha)) (search poly depth 30) tt
+push-holds n w m a t hn hw hm ha = nonneg (n ∷ w ∷ m ∷ a ∷ t ∷ []) (le (≤-of-< hn) ⊠ le hw ⊞ nn 2 ⊠ (le (≤-of-< hm) ⊠ le ha))
+    (search poly depth 30) tt
 
 push-worse : {X : Type 0} (n e m : ℤ) → pos 0 <ℤ e → m <ℤ pos 0 → pos 0 ≤ℤ (n *ℤ pos 0 +ℤ pos 1 *ℤ negℤ (pos 2 *ℤ (e *ℤ (m *ℤ m)))) → X
 push-worse n e m he hm h = clash (n ∷ e ∷ m ∷ []) (h ⊞ nn 2 ⊠ (lt he ⊠ sq m) ⊞ nn 2 ⊠ (lt hm ⊠ lt hm) ⊞ nn 4 ⊠ lt hm ⊞ nn 1) (search poly depth 30) tt
@@ -47,7 +50,8 @@ push-worse n e m he hm h = clash (n ∷ e ∷ m ∷ []) (h ⊞ nn 2 ⊠ (lt he �
 above : (F : Lifted) (u v t : ℤ) → pos 0 ≤ℤ over F u v t → (t *ℤ F .e) ≤ℤ (u *ℤ F .cx +ℤ v *ℤ F .cy)
 above F u v t h = nonneg (F .e ∷ F .cx ∷ F .cy ∷ u ∷ v ∷ t ∷ []) h (search poly depth 30) tt
 
-pub centre-side : {P : List Point} {F : Lifted} → StronglyMinimal P [] F → (u v t : ℤ) → pos 0 <ℤ (u *ℤ u +ℤ v *ℤ v) → ((p : Point) → In p P → t ≤ℤ (u *ℤ p .x +ℤ v *ℤ p .y))
+pub centre-side : {P : List Point} {F : Lifted} → StronglyMinimal P [] F → (u v t : ℤ) → pos 0 <ℤ (u *ℤ u +ℤ v *ℤ v)
+    → ((p : Point) → In p P → t ≤ℤ (u *ℤ p .x +ℤ v *ℤ p .y))
     → (t *ℤ F .e) ≤ℤ (u *ℤ F .cx +ℤ v *ℤ F .cy)
 centre-side {P} {F} s u v t hn h = above F u v t (go (≤-or-< (pos 0) (over F u v t)))
   where
@@ -61,7 +65,8 @@ centre-side {P} {F} s u v t hn h = above F u v t (go (≤-or-< (pos 0) (over F u
     G = combine n F (pos 1) (push m u v t)
 
     G-gap : gap F G ≡ n *ℤ pos 0 +ℤ pos 1 *ℤ negℤ (pos 2 *ℤ (F .e *ℤ (m *ℤ m)))
-    G-gap = gap-combine F n F (pos 1) (push m u v t) ∙ ap (λ (z : ℤ). n *ℤ z +ℤ pos 1 *ℤ gap F (push m u v t)) (gap-self F) ∙ ap (λ (z : ℤ). n *ℤ pos 0 +ℤ pos 1 *ℤ z) (push-gap F m u v t)
+    G-gap = gap-combine F n F (pos 1) (push m u v t) ∙ ap (λ (z : ℤ). n *ℤ z +ℤ pos 1 *ℤ gap F (push m u v t)) (gap-self F)
+        ∙ ap (λ (z : ℤ). n *ℤ pos 0 +ℤ pos 1 *ℤ z) (push-gap F m u v t)
 
     G-value : (p : Point) → value G p ≡ n *ℤ value F p +ℤ pos 1 *ℤ (pos 2 *ℤ (m *ℤ (u *ℤ p .x +ℤ v *ℤ p .y -ℤ t)))
     G-value p = value-combine n F (pos 1) (push m u v t) p ∙ ap (λ (z : ℤ). n *ℤ value F p +ℤ pos 1 *ℤ z) (push-value m u v t p)
@@ -69,8 +74,9 @@ centre-side {P} {F} s u v t hn h = above F u v t (go (≤-or-< (pos 0) (over F u
     G-feasible : m <ℤ pos 0 → Feasible P [] G
     G-feasible hm = record {
       proper = push-weight n (F .e) hn (s .feasible .proper);
-      holds = λ p i. subst (λ (z : ℤ). z ≤ℤ pos 0) (sym (G-value p)) (push-holds n (value F p) m (u *ℤ p .x +ℤ v *ℤ p .y) t hn (s .feasible .holds p i) hm (h p i));
-      rim = λ q i. absurd (List·Memᴰ·not-nil i);
+      holds = λ p i. subst (λ (z : ℤ). z ≤ℤ pos 0) (sym (G-value p))
+          (push-holds n (value F p) m (u *ℤ p .x +ℤ v *ℤ p .y) t hn (s .feasible .holds p i) hm (h p i));
+      on-boundary = λ q i. absurd (List·Memᴰ·not-nil i);
     }
 
     go : (pos 0 ≤ℤ over F u v t) ⊎ (over F u v t <ℤ pos 0) → pos 0 ≤ℤ over F u v t
@@ -95,23 +101,32 @@ pub record BoxLimits (x0 y0 l : ℤ) (F : Lifted) : Type 0 where
 
 module _ {P : List Point} {F : Lifted} (x0 y0 l : ℤ) (s : StronglyMinimal P [] F) (inside : (p : Point) → In p P → Box x0 y0 l p) where
   x-low : (x0 *ℤ F .e) ≤ℤ F .cx
-  x-low = nonneg (x0 ∷ F .e ∷ F .cx ∷ F .cy ∷ []) (le (centre-side s (pos 1) (pos 0) x0 positive-one (λ p i. nonneg (x0 ∷ p .x ∷ p .y ∷ []) (le (inside p i .left)) (search poly depth 30) tt))) (search poly depth 60 fits 9000) tt
+  x-low = nonneg (x0 ∷ F .e ∷ F .cx ∷ F .cy ∷ [])
+      (le (centre-side s (pos 1) (pos 0) x0 positive-one (λ p i. nonneg (x0 ∷ p .x ∷ p .y ∷ []) (le (inside p i .left)) (search poly depth 30) tt)))
+      (search poly depth 60 fits 9000) tt
 
   x-high : F .cx ≤ℤ ((x0 +ℤ l) *ℤ F .e)
-  x-high = nonneg (x0 ∷ l ∷ F .e ∷ F .cx ∷ F .cy ∷ []) (le (centre-side s (negsuc 0) (pos 0) (negℤ (x0 +ℤ l)) positive-one (λ p i. nonneg (x0 ∷ l ∷ p .x ∷ p .y ∷ []) (le (inside p i .right)) (search poly depth 30) tt))) (search poly depth 60 fits 9000) tt
+  x-high = nonneg (x0 ∷ l ∷ F .e ∷ F .cx ∷ F .cy ∷ [])
+      (le (centre-side s (negsuc 0) (pos 0) (negℤ (x0 +ℤ l)) positive-one
+      (λ p i. nonneg (x0 ∷ l ∷ p .x ∷ p .y ∷ []) (le (inside p i .right)) (search poly depth 30) tt))) (search poly depth 60 fits 9000) tt
 
   y-low : (y0 *ℤ F .e) ≤ℤ F .cy
-  y-low = nonneg (y0 ∷ F .e ∷ F .cx ∷ F .cy ∷ []) (le (centre-side s (pos 0) (pos 1) y0 positive-one (λ p i. nonneg (y0 ∷ p .x ∷ p .y ∷ []) (le (inside p i .low)) (search poly depth 30) tt))) (search poly depth 60 fits 9000) tt
+  y-low = nonneg (y0 ∷ F .e ∷ F .cx ∷ F .cy ∷ [])
+      (le (centre-side s (pos 0) (pos 1) y0 positive-one (λ p i. nonneg (y0 ∷ p .x ∷ p .y ∷ []) (le (inside p i .low)) (search poly depth 30) tt)))
+      (search poly depth 60 fits 9000) tt
 
   y-high : F .cy ≤ℤ ((y0 +ℤ l) *ℤ F .e)
-  y-high = nonneg (y0 ∷ l ∷ F .e ∷ F .cx ∷ F .cy ∷ []) (le (centre-side s (pos 0) (negsuc 0) (negℤ (y0 +ℤ l)) positive-one (λ p i. nonneg (y0 ∷ l ∷ p .x ∷ p .y ∷ []) (le (inside p i .high)) (search poly depth 30) tt))) (search poly depth 60 fits 9000) tt
+  y-high = nonneg (y0 ∷ l ∷ F .e ∷ F .cx ∷ F .cy ∷ [])
+      (le (centre-side s (pos 0) (negsuc 0) (negℤ (y0 +ℤ l)) positive-one
+      (λ p i. nonneg (y0 ∷ l ∷ p .x ∷ p .y ∷ []) (le (inside p i .high)) (search poly depth 30) tt))) (search poly depth 60 fits 9000) tt
 
   -- the disk about the square: centre (x0 + l/2, y0 + l/2), squared radius l²/2
   abbrev about : RationalDisk
   about = record { x = pos 2 *ℤ x0 +ℤ l; y = pos 2 *ℤ y0 +ℤ l; e = 2; a = l *ℤ l; b = 2; e-some = omega arith; b-some = omega arith }
 
   about-holds : (a b : ℤ) → x0 ≤ℤ a → a ≤ℤ (x0 +ℤ l) → y0 ≤ℤ b → b ≤ℤ (y0 +ℤ l)
-      → (pos 2 *ℤ ((a *ℤ pos 2 -ℤ (pos 2 *ℤ x0 +ℤ l)) *ℤ (a *ℤ pos 2 -ℤ (pos 2 *ℤ x0 +ℤ l)) +ℤ (b *ℤ pos 2 -ℤ (pos 2 *ℤ y0 +ℤ l)) *ℤ (b *ℤ pos 2 -ℤ (pos 2 *ℤ y0 +ℤ l)))) ≤ℤ ((l *ℤ l) *ℤ pos 4)
+      → (pos 2 *ℤ ((a *ℤ pos 2 -ℤ (pos 2 *ℤ x0 +ℤ l)) *ℤ (a *ℤ pos 2 -ℤ (pos 2 *ℤ x0 +ℤ l))
+      +ℤ (b *ℤ pos 2 -ℤ (pos 2 *ℤ y0 +ℤ l)) *ℤ (b *ℤ pos 2 -ℤ (pos 2 *ℤ y0 +ℤ l)))) ≤ℤ ((l *ℤ l) *ℤ pos 4)
   about-holds a b h1 h2 h3 h4 = nonneg (x0 ∷ y0 ∷ l ∷ a ∷ b ∷ []) (nn 8 ⊠ (le h1 ⊠ le h2) ⊞ nn 8 ⊠ (le h3 ⊠ le h4)) (search poly depth 30) tt
 
   about-fits : Fits about P []
@@ -134,7 +149,8 @@ back a b c = ring (a .x ∷ a .y ∷ b .x ∷ b .y ∷ c .x ∷ c .y ∷ []) (se
 module _ (x0 y0 l : ℤ) (hl : pos 0 ≤ℤ l) where
   two-rise : (a b c : Point) → Box x0 y0 l a → Box x0 y0 l b → Box x0 y0 l c → c .y ≤ℤ b .y → a .y ≤ℤ c .y → turn a b c ≤ℤ (l *ℤ l)
   two-rise a b c ha hb hc h1 h2 = nonneg (x0 ∷ y0 ∷ l ∷ a .x ∷ a .y ∷ b .x ∷ b .y ∷ c .x ∷ c .y ∷ [])
-      (le h1 ⊠ le (ha .right) ⊞ le h2 ⊠ le (hb .right) ⊞ (le h1 ⊞ le h2) ⊠ le (hc .left) ⊞ hl ⊠ (le (hb .high) ⊞ le (ha .low))) (search poly depth 30) tt
+      (le h1 ⊠ le (ha .right) ⊞ le h2 ⊠ le (hb .right) ⊞ (le h1 ⊞ le h2) ⊠ le (hc .left) ⊞ hl ⊠ (le (hb .high) ⊞ le (ha .low)))
+      (search poly depth 30) tt
 
   one-rises : (a b c : Point) → Box x0 y0 l a → Box x0 y0 l b → Box x0 y0 l c → c .y ≤ℤ b .y → c .y ≤ℤ a .y → a .y ≤ℤ b .y → turn a b c ≤ℤ (l *ℤ l)
   one-rises a b c ha hb hc h1 h2 h3 = nonneg (x0 ∷ y0 ∷ l ∷ a .x ∷ a .y ∷ b .x ∷ b .y ∷ c .x ∷ c .y ∷ [])

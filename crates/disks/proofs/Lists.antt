@@ -1,4 +1,7 @@
--- Permutations of lists of points (`List·Permᴰ` of the library): they keep the members and the length. Assumes nothing.
+-- Permutations of lists of points (`List·Permᴰ` of the library).
+--
+--   perm-in, perm-same, perm-length : they keep the members and the length
+--   last-first                      : the last point put first
 use mathlib.Core.Path.{_≡_, refl, _∙_, ap}
 use mathlib.Core.Logic.{_⊎_, inl, inr}
 use mathlib.Core.List.{List, [], _∷_, _++_, List·Memᴰ·head, List·Memᴰ·tail, List·Memᴰ·cases-cons, List·Permᴰ, List·Permᴰ·nil, List·Permᴰ·cons, List·Permᴰ·swap, List·Permᴰ·trans, Permᴰ·symm, Permᴰ·middle, Permᴰ·append-nil}

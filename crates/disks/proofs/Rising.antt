@@ -75,12 +75,14 @@ by-coordinates p q t = go (either-test (ltZ (p .x) (q .x)) (eqZ (p .x) (q .x) &&
   where
     go : T (ltZ (p .x) (q .x)) ⊎ T (eqZ (p .x) (q .x) && ltZ (p .y) (q .y)) → ByCoordinates p q
     go (inl h) = by-x (record { lt = h })
-    go (inr h) = by-y (eqZ-eq (p .x) (q .x) (and-left (eqZ (p .x) (q .x)) (ltZ (p .y) (q .y)) h)) (record { lt = and-right (eqZ (p .x) (q .x)) (ltZ (p .y) (q .y)) h })
+    go (inr h) = by-y (eqZ-eq (p .x) (q .x) (and-left (eqZ (p .x) (q .x)) (ltZ (p .y) (q .y)) h))
+        (record { lt = and-right (eqZ (p .x) (q .x)) (ltZ (p .y) (q .y)) h })
 
 is-before : {p q : Point} → ByCoordinates p q → T (before p q)
 unfolding before
 is-before {p} {q} (by-x h) = first-test (ltZ (p .x) (q .x)) (eqZ (p .x) (q .x) && ltZ (p .y) (q .y)) (h .lt)
-is-before {p} {q} (by-y e h) = second-test (ltZ (p .x) (q .x)) (eqZ (p .x) (q .x) && ltZ (p .y) (q .y)) (both (eqZ (p .x) (q .x)) (ltZ (p .y) (q .y)) (eq-eqZ (p .x) (q .x) e) (h .lt))
+is-before {p} {q} (by-y e h) = second-test (ltZ (p .x) (q .x)) (eqZ (p .x) (q .x) && ltZ (p .y) (q .y))
+    (both (eqZ (p .x) (q .x)) (ltZ (p .y) (q .y)) (eq-eqZ (p .x) (q .x) e) (h .lt))
 
 pub before-trans : (p q r : Point) → T (before p q) → T (before q r) → T (before p r)
 before-trans p q r s t = is-before (go (by-coordinates p q s) (by-coordinates q r t))

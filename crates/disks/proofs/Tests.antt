@@ -1,6 +1,9 @@
--- The procedure's test in other forms. Assumes nothing.
--- Proved: for a disk, `outside` is document 01's inequality turned round (`outside-holds`); for a disk kept relative to a rim point q it is the engine's
--- |d|²·E > 2(d·g), d = p - q (`outside-relative`); the empty disk has every point outside (`outside-none`).
+-- The lifted procedure's test in other forms.
+--
+--   outside-holds      : for a disk, `outside` is document 01's inequality turned round
+--   outside-relative   : for a disk relative to a boundary point q it is |d|²·E > 2(d·g), d = p − q
+--   outside-none       : the empty disk has every point outside
+--   same-test, same-ltZ : two tests are equal where each passes if the other does
 use mathlib.Core.Path.{_≡_, refl, _∙_, ap}
 use mathlib.Core.Bool.{Bool, true, false}
 use mathlib.Core.List.{[], _∷_}
@@ -40,7 +43,8 @@ value-distance F p = ring (F .e ∷ F .cx ∷ F .cy ∷ F .k ∷ p .x ∷ p .y �
 pub outside-holds : (F : Lifted) (p : Point) → pos 0 <ℤ F .e → outside F p ≡ ltZ (squaredRadius F) (distanceFrom F p)
 unfolding outside
 outside-holds F p he = same-ltZ (pos 0) (value F p) (squaredRadius F) (distanceFrom F p)
-    (more-than (F .e) (value F p) (distanceFrom F p) (squaredRadius F) (value-distance F p) he) (is-more (F .e) (value F p) (distanceFrom F p) (squaredRadius F) (value-distance F p) he)
+    (more-than (F .e) (value F p) (distanceFrom F p) (squaredRadius F) (value-distance F p) he)
+    (is-more (F .e) (value F p) (distanceFrom F p) (squaredRadius F) (value-distance F p) he)
 
 positive-difference : (a b : ℤ) → pos 0 <ℤ (a -ℤ b) → b <ℤ a
 positive-difference a b h = positive (a ∷ b ∷ []) (lt h) (search poly depth 30) tt

@@ -1,8 +1,10 @@
--- The disk through three points. Assumes nothing.
---     turn a b c             twice the area of the triangle, with a sign
---     circle, tripleDisk     the form that vanishes at three points; the same with its sign turned where E would be negative
--- Proved: every form that vanishes at the three is a multiple of `circle` (`circle-only`); three different points that some disk has on its rim are
--- not in a row (`not-in-row`); so `tripleDisk` is strongly minimal for whatever such a disk holds (`triple-strong`).
+-- The disk through three points.
+--
+--   turn a b c           == twice the area of the triangle, with a sign
+--   circle, tripleDisk   == the form that vanishes at three points; the same with its sign turned where E would be negative
+--   circle-only          : every form that vanishes at the three is a multiple of `circle`
+--   not-in-row           : three different points that some disk has on its boundary are not in a row
+--   triple-strong        : so `tripleDisk` is strongly minimal for whatever such a disk holds
 use mathlib.Core.Path.{_≡_, refl, sym, _∙_, ap}
 use mathlib.Core.Logic.{_⊎_, inl, inr, _≢_}
 use mathlib.Core.Bool.{Bool, true, false, not}
@@ -72,7 +74,8 @@ module _ (a b c : Point) (G : Lifted) (ha : value G a ≡ pos 0) (hb : value G b
       (eqn (ux a b -ℤ ux a c) ha & eqn (ux a c) hb & eqn (negℤ (ux a b)) hc) (search poly depth 30) tt
 
 -- where both vanish at a point, the centre decides
-same-k-from : (F G : Lifted) (a : Point) → value F a ≡ pos 0 → value G a ≡ pos 0 → F .e *ℤ G .cx ≡ G .e *ℤ F .cx → F .e *ℤ G .cy ≡ G .e *ℤ F .cy → F .e *ℤ G .k ≡ G .e *ℤ F .k
+same-k-from : (F G : Lifted) (a : Point) → value F a ≡ pos 0 → value G a ≡ pos 0 → F .e *ℤ G .cx ≡ G .e *ℤ F .cx → F .e *ℤ G .cy ≡ G .e *ℤ F .cy
+    → F .e *ℤ G .k ≡ G .e *ℤ F .k
 same-k-from F G a hf hg hx hy = linear (F .e ∷ F .cx ∷ F .cy ∷ F .k ∷ G .e ∷ G .cx ∷ G .cy ∷ G .k ∷ a .x ∷ a .y ∷ [])
     (eqn (F .e) hg & eqn (negℤ (G .e)) hf & eqn (pos 2 *ℤ a .x) hx & eqn (pos 2 *ℤ a .y) hy) (search poly depth 30) tt
 
@@ -122,9 +125,10 @@ turned-proper F n = go (ltZ (F .e) (pos 0)) (λ t. record { lt = t }) (λ t. ltZ
     go false f g (same h) = absurd (n h)
     go false f g (more h) = h
 
--- ---- three different points that some disk has on its rim are not in a row
+-- ---- three different points that some disk has on its boundary are not in a row
 
-row-product : (ux uy vx vy gx gy e : ℤ) → e *ℤ (ux *ℤ ux +ℤ uy *ℤ uy) ≡ pos 2 *ℤ (gx *ℤ ux +ℤ gy *ℤ uy) → e *ℤ (vx *ℤ vx +ℤ vy *ℤ vy) ≡ pos 2 *ℤ (gx *ℤ vx +ℤ gy *ℤ vy)
+row-product : (ux uy vx vy gx gy e : ℤ) → e *ℤ (ux *ℤ ux +ℤ uy *ℤ uy) ≡ pos 2 *ℤ (gx *ℤ ux +ℤ gy *ℤ uy)
+    → e *ℤ (vx *ℤ vx +ℤ vy *ℤ vy) ≡ pos 2 *ℤ (gx *ℤ vx +ℤ gy *ℤ vy)
     → ux *ℤ vy -ℤ uy *ℤ vx ≡ pos 0 → e *ℤ ((vx *ℤ vx +ℤ vy *ℤ vy) *ℤ (ux *ℤ (ux -ℤ vx) +ℤ uy *ℤ (uy -ℤ vy))) ≡ pos 0
 row-product ux uy vx vy gx gy e hu hv hw = linear (ux ∷ uy ∷ vx ∷ vy ∷ gx ∷ gy ∷ e ∷ [])
     (eqn (vx *ℤ vx +ℤ vy *ℤ vy) hu & eqn (negℤ (ux *ℤ vx +ℤ uy *ℤ vy)) hv & eqn (pos 2 *ℤ (gx *ℤ vy -ℤ gy *ℤ vx)) hw) (search poly depth 30) tt
@@ -134,28 +138,33 @@ row-lengths : (ux uy vx vy : ℤ) → ux *ℤ (ux -ℤ vx) +ℤ uy *ℤ (uy -ℤ
 row-lengths ux uy vx vy hd hw = linear (ux ∷ uy ∷ vx ∷ vy ∷ [])
     (eqn (ux *ℤ (ux -ℤ vx) +ℤ uy *ℤ (uy -ℤ vy)) hd & eqn (ux *ℤ vy -ℤ uy *ℤ vx) hw) (search poly depth 30) tt
 
--- on the rim with a: a chord, and the centre seen from a
+-- on the boundary with a: a chord, and the centre seen from a
 chord : (G : Lifted) (a b : Point) → value G a ≡ pos 0 → value G b ≡ pos 0
     → G .e *ℤ (ux a b *ℤ ux a b +ℤ uy a b *ℤ uy a b) ≡ pos 2 *ℤ ((G .cx -ℤ a .x *ℤ G .e) *ℤ ux a b +ℤ (G .cy -ℤ a .y *ℤ G .e) *ℤ uy a b)
-chord G a b ha hb = linear (G .e ∷ G .cx ∷ G .cy ∷ G .k ∷ a .x ∷ a .y ∷ b .x ∷ b .y ∷ []) (eqn (pos 1) hb & eqn (negsuc 0) ha) (search poly depth 30) tt
+chord G a b ha hb = linear (G .e ∷ G .cx ∷ G .cy ∷ G .k ∷ a .x ∷ a .y ∷ b .x ∷ b .y ∷ []) (eqn (pos 1) hb & eqn (negsuc 0) ha)
+    (search poly depth 30) tt
 
 no-length : (a b : Point) → (ux a b *ℤ ux a b +ℤ uy a b *ℤ uy a b) ≡ pos 0 → a ≡ b
-no-length a b h = let z = sum-squares-zero (ux a b) (uy a b) h in point-path (sym (eq-of-sub (b .x) (a .x) (z .0))) (sym (eq-of-sub (b .y) (a .y) (z .1)))
+no-length a b h = let z = sum-squares-zero (ux a b) (uy a b) h in point-path (sym (eq-of-sub (b .x) (a .x) (z .0)))
+    (sym (eq-of-sub (b .y) (a .y) (z .1)))
 
-between : (a b c : Point) → (ux a b -ℤ ux a c) *ℤ (ux a b -ℤ ux a c) +ℤ (uy a b -ℤ uy a c) *ℤ (uy a b -ℤ uy a c) ≡ ux b c *ℤ ux b c +ℤ uy b c *ℤ uy b c
+between : (a b c : Point) → (ux a b -ℤ ux a c) *ℤ (ux a b -ℤ ux a c) +ℤ (uy a b -ℤ uy a c) *ℤ (uy a b -ℤ uy a c) ≡ ux b c *ℤ ux b c
+    +ℤ uy b c *ℤ uy b c
 between a b c = ring (a .x ∷ a .y ∷ b .x ∷ b .y ∷ c .x ∷ c .y ∷ []) (search poly depth 30) tt
 
 pub not-in-row : {P : List Point} {a b c : Point} {G : Lifted} → Feasible P (a ∷ b ∷ c ∷ []) G → Different (a ∷ b ∷ c ∷ []) → turn a b c ≢ pos 0
-not-in-row {P} {a} {b} {c} {G} f d w = lengths (zero-product (G .e) _ (row-product (ux a b) (uy a b) (ux a c) (uy a c) (G .cx -ℤ a .x *ℤ G .e) (G .cy -ℤ a .y *ℤ G .e) (G .e) (chord G a b ha hb) (chord G a c ha hc) w))
+not-in-row {P} {a} {b} {c} {G} f d w = lengths
+    (zero-product (G .e) _ (row-product (ux a b) (uy a b) (ux a c) (uy a c) (G .cx -ℤ a .x *ℤ G .e) (G .cy -ℤ a .y *ℤ G .e) (G .e) (chord G a b ha hb)
+    (chord G a c ha hc) w))
   where
     ha : value G a ≡ pos 0
-    ha = f .rim a (List·Memᴰ·head refl)
+    ha = f .on-boundary a (List·Memᴰ·head refl)
 
     hb : value G b ≡ pos 0
-    hb = f .rim b (List·Memᴰ·tail (List·Memᴰ·head refl))
+    hb = f .on-boundary b (List·Memᴰ·tail (List·Memᴰ·head refl))
 
     hc : value G c ≡ pos 0
-    hc = f .rim c (List·Memᴰ·tail (List·Memᴰ·tail (List·Memᴰ·head refl)))
+    hc = f .on-boundary c (List·Memᴰ·tail (List·Memᴰ·tail (List·Memᴰ·head refl)))
 
     a≢b : a ≢ b
     a≢b e = d .0 (List·Memᴰ·head e)
@@ -166,7 +175,8 @@ not-in-row {P} {a} {b} {c} {G} f d w = lengths (zero-product (G .e) _ (row-produ
     b≢c : b ≢ c
     b≢c e = d .1 .0 (List·Memᴰ·head e)
 
-    ends : (ux a b *ℤ ux a b +ℤ uy a b *ℤ uy a b ≡ pos 0) ⊎ ((ux a b -ℤ ux a c) *ℤ (ux a b -ℤ ux a c) +ℤ (uy a b -ℤ uy a c) *ℤ (uy a b -ℤ uy a c) ≡ pos 0) → ⊥
+    ends : (ux a b *ℤ ux a b +ℤ uy a b *ℤ uy a b ≡ pos 0) ⊎ ((ux a b -ℤ ux a c) *ℤ (ux a b -ℤ ux a c) +ℤ (uy a b -ℤ uy a c) *ℤ (uy a b -ℤ uy a c)
+        ≡ pos 0) → ⊥
     ends (inl z) = a≢b (no-length a b z)
     ends (inr z) = b≢c (no-length b c (sym (between a b c) ∙ z))
 
@@ -187,9 +197,10 @@ turn-weight a b c n z = go (zero-product (pos 2) (turn a b c) z)
     go (inl t) = <-≤-clash {a = pos 0} {b = pos 2} (positive [] (nn 1) (search poly depth 30) tt) (≤-of-eq t)
     go (inr t) = n t
 
-pub triple-strong : {P : List Point} {a b c : Point} {G : Lifted} → Feasible P (a ∷ b ∷ c ∷ []) G → Different (a ∷ b ∷ c ∷ []) → StronglyMinimal P (a ∷ b ∷ c ∷ []) (tripleDisk a b c)
+pub triple-strong : {P : List Point} {a b c : Point} {G : Lifted} → Feasible P (a ∷ b ∷ c ∷ []) G → Different (a ∷ b ∷ c ∷ [])
+    → StronglyMinimal P (a ∷ b ∷ c ∷ []) (tripleDisk a b c)
 triple-strong {P} {a} {b} {c} {G} f d = record {
-  feasible = record { proper = proper; holds = λ p m. holds-by proper (f .proper) (multiple-value (only G f) p) (f .holds p m); rim = on };
+  feasible = record { proper = proper; holds = λ p m. holds-by proper (f .proper) (multiple-value (only G f) p) (f .holds p m); on-boundary = on };
   least = λ H h. ≤-of-eq (sym (multiple-no-gap proper (only H h)));
 }
   where
@@ -200,10 +211,13 @@ triple-strong {P} {a} {b} {c} {G} f d = record {
     proper = turned-proper (circle a b c) (turn-weight a b c (not-in-row f d))
 
     only : (H : Lifted) → Feasible P (a ∷ b ∷ c ∷ []) H → Multiple (tripleDisk a b c) H
-    only H h = turned-multiple s (circle a b c) H (circle-only a b c H (h .rim a (List·Memᴰ·head refl)) (h .rim b (List·Memᴰ·tail (List·Memᴰ·head refl))) (h .rim c (List·Memᴰ·tail (List·Memᴰ·tail (List·Memᴰ·head refl)))))
+    only H h = turned-multiple s (circle a b c) H
+        (circle-only a b c H (h .on-boundary a (List·Memᴰ·head refl)) (h .on-boundary b (List·Memᴰ·tail (List·Memᴰ·head refl)))
+        (h .on-boundary c (List·Memᴰ·tail (List·Memᴰ·tail (List·Memᴰ·head refl)))))
 
     On : Point → Type 0
     On q = value (tripleDisk a b c) q ≡ pos 0
 
     on : (q : Point) → In q (a ∷ b ∷ c ∷ []) → On q
-    on = also On (turned-vanishes s (circle a b c) a (circle-a a b c)) (also On (turned-vanishes s (circle a b c) b (circle-b a b c)) (also On (turned-vanishes s (circle a b c) c (circle-c a b c)) (none-of On)))
+    on = also On (turned-vanishes s (circle a b c) a (circle-a a b c))
+        (also On (turned-vanishes s (circle a b c) b (circle-b a b c)) (also On (turned-vanishes s (circle a b c) c (circle-c a b c)) (none-of On)))

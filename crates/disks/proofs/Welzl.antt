@@ -2,6 +2,7 @@
 --
 --   mtf-disk, mtf-smallest : with R fixed, at most three points and all different, and some rational disk that fits (P, R), the procedure
 --                            ends on a disk, the smallest for (P, R)
+--   boundary-smallest      : `boundaryDisk R` is the smallest disk with R on its boundary, if there is any
 --   smallest               : from no point fixed, for every list of at least one point
 --   disk-same              : lists with the same points have the same disk
 --   tests-most             : the tests are at most (n³ + 5n)/6
@@ -12,9 +13,8 @@ use Prim.Native.Nat.{ℕ, _+_, _-_, _*_, _≤_}
 use native.Mathlib.Omega.{arith}
 use lib.ListN.{length}
 use Rattle.geometry.specs.declared.Point.{Point}
-use Rattle.geometry.specs.declared.Disk.{Disk}
 use Rattle.disks.specs.Smallest.{Same, Different, RationalDisk, Fits, SmallestWith, Smallest}
-use Rattle.disks.specs.Procedure.{Cover, disk, State, mtf, diskIn, diskOf, testsOf, orderOf}
+use Rattle.disks.specs.Procedure.{Cover, disk, State, boundaryDisk, mtf, mtf-empty, diskIn, diskOf, testsOf, orderOf}
 use Rattle.disks.proofs.Minimal.{same-refl, StronglyMinimal}
 use Rattle.disks.proofs.LiftedProcedure as L
 use Rattle.disks.proofs.Correct.{run-strong, mtf-ran, mtf-strong}
@@ -29,13 +29,20 @@ module _ (R P : List Point) (most : length R ≤ 3) (different : Different R) (s
   strong = run-strong R P (lift c) most some different (lift-feasible fits)
 
   cover-is : mtf R P .cover ≡ disk (lowered (L.run R P .disk))
-  cover-is = ap (λ (s : State). s .cover) (run-image (3 - length R) R P (lift c) (lift-feasible fits) different (omega arith)) ∙ cover-disk (L.run R P .disk) (strong .feasible .proper)
+  cover-is = ap (λ (s : State). s .cover) (run-image (3 - length R) R P (lift c) (lift-feasible fits) different (omega arith))
+      ∙ cover-disk (L.run R P .disk) (strong .feasible .proper)
 
   pub mtf-disk : mtf R P .cover ≡ disk (diskIn (mtf R P .cover))
   mtf-disk = cover-is ∙ ap (λ (k : Cover). disk (diskIn k)) (sym cover-is)
 
   pub mtf-smallest : SmallestWith P R (diskIn (mtf R P .cover))
   mtf-smallest = subst (λ (k : Cover). SmallestWith P R (diskIn k)) (sym cover-is) (strong-smallest strong (strong-written strong))
+
+-- the disks that the procedure starts from
+pub boundary-smallest : (R : List Point) → 1 ≤ length R → length R ≤ 3 → Different R → (c : RationalDisk) → Fits c [] R
+    → SmallestWith [] R (diskIn (boundaryDisk R))
+boundary-smallest R some most different c fits = subst (λ (s : State). SmallestWith [] R (diskIn (s .cover))) (mtf-empty R)
+    (mtf-smallest R [] most different (omega arith) c fits)
 
 -- ---- from no point fixed
 

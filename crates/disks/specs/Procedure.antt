@@ -6,18 +6,19 @@
 --   State              == what a run gives: the cover, the number of tests, and the list as it is left
 --   mtf R P            == B_MTFDISK on the list P with the set R fixed on the boundary
 --   diskOf, testsOf, orderOf P   == the three parts of it from no point fixed
---   run-empty, run-full, run-last : the text's own rule: P empty, R of three, otherwise by the last point of P
+--   mtf-empty, mtf-full, mtf-last : the text's own rule: P empty, R of three, otherwise by the last point of P
 --
 -- Against 000: the first permutation is left out (01), and each test is counted (01). The steps of `run` go through P from its first
--- point on, which is the text's recursion on the last point, as `run-last` says.
-use mathlib.Core.Path.{_≡_, refl, _∙_}
+-- point on, which is the text's recursion on the last point, as `mtf-last` says.
+use mathlib.Core.Path.{_≡_, refl, _∙_, ap}
 use mathlib.Core.Bool.{Bool, true, false, not}
 use mathlib.Core.List.{List, [], _∷_, _++_}
-use Prim.Native.Nat.{ℕ, zero, suc, _+_, _-_, _*_, _/_}
+use Prim.Native.Nat.{ℕ, zero, suc, _+_, _-_, _*_, _/_, _≤_}
+use native.Mathlib.Omega.{arith}
 use lib.IntN.{ℤ, pos, negsuc, negℤ, natAbs, _+ℤ_, _-ℤ_, _*ℤ_}
 use lib.ListN.{length}
 use lib.Signed.{quotZ}
-use Rattle.integers.specs.Gcd.{gcd}
+use Rattle.integers.specs.LowestTerms.{common}
 use Rattle.geometry.specs.declared.Point.{Point}
 use Rattle.geometry.specs.declared.Disk.{Disk}
 use Rattle.geometry.specs.Plane.{holds}
@@ -35,7 +36,7 @@ outside (disk d) p = not (holds d p)
 -- centre (X/E, Y/E) and squared radius S/E², written without a common divisor of X, Y and E
 unfoldable pub lowestTerms : ℤ → ℤ → ℕ → ℕ → Disk
 lowestTerms X Y E S =
-    let g = gcd (gcd (natAbs X) (natAbs Y)) E in
+    let g = common X Y E in
     record { x = quotZ X (pos g); y = quotZ Y (pos g); e = E / g; s = S / (g * g) }
 
 abbrev pub norm : ℤ → ℤ → ℤ
@@ -129,6 +130,24 @@ pub run-last : (k : ℕ) (R P : List Point) (p : Point)
     run (suc k) R (P ++ (p ∷ [])) ≡ tested (outside (s .cover) p) s p (run k (p ∷ R) (s .left))
 unfolding run step
 run-last k R P p = through-last (step (run k) R) (start R []) P p
+
+pub mtf-empty : (R : List Point) → mtf R [] ≡ start R []
+mtf-empty R = run-empty (3 - length R) R
+
+pub mtf-full : (R P : List Point) → length R ≡ 3 → mtf R P ≡ start R P
+mtf-full R P h = ap (λ (k : ℕ). run k R P) (none (length R) h) ∙ run-full R P
+  where
+    none : (n : ℕ) → n ≡ 3 → 3 - n ≡ 0
+    none n h = omega arith
+
+-- do P without p; test p; if it is outside, do P without p again, as it now stands, with p added to R, then move p to the front
+pub mtf-last : (R P : List Point) (p : Point) → length R ≤ 2
+    → let s = mtf R P in
+    mtf R (P ++ (p ∷ [])) ≡ tested (outside (s .cover) p) s p (mtf (p ∷ R) (s .left))
+mtf-last [] P p h = run-last 2 [] P p
+mtf-last (a ∷ []) P p h = run-last 1 (a ∷ []) P p
+mtf-last (a ∷ b ∷ []) P p h = run-last 0 (a ∷ b ∷ []) P p
+mtf-last (a ∷ b ∷ c ∷ R) P p h = absurd (omega arith)
 
 -- ---- from no point fixed
 

@@ -10,9 +10,10 @@
 --   Different R            == no point stands twice in R
 use mathlib.Core.Path.{_≡_}
 use mathlib.Core.List.{List, [], _∷_, List·Memᴰ}
-use Prim.Native.Nat.{ℕ, _*_, _≤_, _∣_}
+use Prim.Native.Nat.{ℕ, _*_, _≤_}
 use lib.Dec.{T}
-use lib.IntN.{ℤ, pos, natAbs, _+ℤ_, _-ℤ_, _*ℤ_}
+use lib.IntN.{ℤ, pos, _+ℤ_, _-ℤ_, _*ℤ_}
+use Rattle.integers.specs.LowestTerms.{Reduced}
 use Rattle.integers.specs.Order.{_≼_}
 use Rattle.geometry.specs.declared.Point.{Point}
 use Rattle.geometry.specs.declared.Disk.{Disk}
@@ -54,7 +55,8 @@ pub record Fits (c : RationalDisk) (P R : List Point) : Type 0 where
 
 pub record SmallestWith (P R : List Point) (d : Disk) : Type 0 where
   pub proper : 1 ≤ d .e
-  pub lowest : (g : ℕ) → g ∣ natAbs (d .x) → g ∣ natAbs (d .y) → g ∣ d .e → g ≡ 1
+  -- no whole number above 1 divides X, Y and E all together
+  pub lowest : Reduced (d .x) (d .y) (d .e)
   pub holds-all : (p : Point) → In p P → T (holds d p)
   pub through-all : (q : Point) → In q R → onBoundary d q
   -- S/E² ≤ a/b

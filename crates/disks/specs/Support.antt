@@ -2,8 +2,10 @@
 --
 --   sorted P          == the different points of P in rising order
 --   choose k Q        == the sets of k points of Q, each in Q's order, in lexical order
+--   candidates Q      == the sets of one point of Q, then of two, then of three
 --   supports P T      == T's own smallest disk is that of P (01: T is a rim set of P)
---   firstSupport P    == of the sets of one, then two, then three different points of P, each in rising order, the first that supports P
+--   firstSupport P    == of the sets of one, then two, then three different points of P, each in rising order, the first that supports P;
+--                        by its property in FirstSupport.antt
 use mathlib.Core.Bool.{Bool, true, false, _&&_}
 use mathlib.Core.List.{List, [], _∷_, _++_}
 use Prim.Native.Nat.{ℕ, zero, suc}
@@ -37,6 +39,9 @@ choose zero Q = [] ∷ []
 choose (suc k) [] = []
 choose (suc k) (p ∷ Q) = fronted p (choose k Q) ++ choose (suc k) Q
 
+abbrev pub candidates : List Point → List (List Point)
+candidates Q = choose 1 Q ++ (choose 2 Q ++ choose 3 Q)
+
 unfoldable pub sameDisk : Disk → Disk → Bool
 sameDisk c d = eqZ (c .x) (d .x) && (eqZ (c .y) (d .y) && (eqb (c .e) (d .e) && eqb (c .s) (d .s)))
 
@@ -53,4 +58,4 @@ firstOf f (T ∷ cs) = pick (f T) (firstOf f cs)
     pick false l = l
 
 unfoldable pub firstSupport : List Point → List Point
-firstSupport P = firstOf (supports P) (choose 1 (sorted P) ++ (choose 2 (sorted P) ++ choose 3 (sorted P)))
+firstSupport P = firstOf (supports P) (candidates (sorted P))

@@ -2,6 +2,7 @@
 --
 --   diskBytes-length, pointBytes-length, pointsBytes-length : 32, 4, and 4 for each point
 --   members-counted       : a support set has one to three points
+--   not-four              : one to three points are no more
 --   madeThree-length      : one to three points are made three
 --   recordBytes-length    : a record has `recordLength` bytes
 --   three-stored          : three points stored one by one are stored together
@@ -45,15 +46,17 @@ members-counted (One a) = refl
 members-counted (Two a b) = refl
 members-counted (Three a b c) = refl
 
+pub not-four : (a b c p : Point) (ps : List Point) → oneToThree (a ∷ b ∷ c ∷ p ∷ ps) ≡ true → ⊥
+not-four a b c p ps h =
+    let n = suc (suc (suc (suc (length ps)))) in
+    let few : n ≤ 3 = leb-true n 3 (rest (leb 1 n) (leb n 3) h) in omega arith
+
 pub madeThree-length : (ps : List Point) → oneToThree ps ≡ true → length (madeThree ps) ≡ 3
 madeThree-length [] h = absurd (true≢false (sym h))
 madeThree-length (a ∷ []) h = refl
 madeThree-length (a ∷ b ∷ []) h = refl
 madeThree-length (a ∷ b ∷ c ∷ []) h = refl
-madeThree-length (a ∷ b ∷ c ∷ p ∷ ps) h = absurd (too-many (length ps) (leb-true (suc (suc (suc (suc (length ps))))) 3 (rest (leb 1 (suc (suc (suc (suc (length ps)))))) (leb (suc (suc (suc (suc (length ps))))) 3) h)))
-  where
-    too-many : (n : ℕ) → suc (suc (suc (suc n))) ≤ 3 → ⊥
-    too-many n h = omega arith
+madeThree-length (a ∷ b ∷ c ∷ p ∷ ps) h = absurd (not-four a b c p ps h)
 
 pub recordBytes-length : (d : Disk) (ps : List Point) → oneToThree ps ≡ true → length (recordBytes d ps) ≡ recordLength
 unfolding recordBytes

@@ -5,3 +5,7 @@ pub mod RadiusLaws
 pub mod SamePoint
 pub mod Stores
 pub mod ByteLaws
+pub mod Joined
+pub mod TenFields
+pub mod Meaning
+pub mod RoundTrip

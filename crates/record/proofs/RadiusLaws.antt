@@ -15,7 +15,7 @@ use Rattle.geometry.specs.declared.Disk.{Disk}
 use Rattle.record.specs.Least.{IsLeast}
 use Rattle.record.specs.Radius.{reaches, wholeRadius}
 use Rattle.record.proofs.LeastLaws.{least-is, only-least}
-use Rattle.record.proofs.ValidLaws.{Limits}
+use Rattle.record.proofs.ValidLaws.{DiskBounds}
 
 pub reaches-more : (d : Disk) {r q : ℕ} → r ≤ q → reaches d r ≡ true → reaches d q ≡ true
 reaches-more d {r} {q} l h =
@@ -29,7 +29,7 @@ reaches-less d {r} {q} l h = go (reaches d r) refl
     go true e = absurd (true≢false (sym (reaches-more d l e) ∙ h))
     go false e = refl
 
-pub reaches-limit : (d : Disk) → Limits d → reaches d 708 ≡ true
+pub reaches-limit : (d : Disk) → DiskBounds d → reaches d 708 ≡ true
 reaches-limit d k = le-leb (d .s) (708 * 708 * (d .e * d .e)) (omega (arith, k .s-small))
 
 -- S itself reaches

@@ -1,6 +1,6 @@
 -- What a valid disk and its points are known to keep to.
 --
---   Limits d               == the limits of E, X, Y and S, as facts
+--   DiskBounds d               == the limits of E, X, Y and S, as facts
 --   limits                 : a valid disk keeps to them
 --   scale-limits, centre-limits : the limits that each test settles
 --   valid-disk, valid-points    : the two halves of `valid`
@@ -20,7 +20,7 @@ use Rattle.geometry.specs.declared.Disk.{Disk}
 use Rattle.geometry.specs.Plane.{inEmBox}
 use Rattle.record.specs.Valid.{maxE, maxSquare, scaleInLimit, centreInEmBox, squareInLimit, isLowest, validDisk, validPoints, valid}
 
-pub record Limits (d : Disk) : Type 0 where
+pub record DiskBounds (d : Disk) : Type 0 where
   pub e-some : 1 ≤ d .e
   pub e-small : d .e ≤ maxE
   pub x-small : natAbs (d .x) ≤ 1000 * maxE
@@ -44,7 +44,7 @@ centre-limits d l h =
       omega (arith, between-size foot (d .y) top (rest in-x in-y h), abs-* (negsuc 249) (pos (d .e))),
     )
 
-pub limits : (d : Disk) → validDisk d ≡ true → Limits d
+pub limits : (d : Disk) → validDisk d ≡ true → DiskBounds d
 unfolding validDisk
 limits d h =
     let box = centreInEmBox d && squareInLimit d in

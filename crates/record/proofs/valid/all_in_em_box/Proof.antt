@@ -3,8 +3,7 @@ use mathlib.Core.Path.{_≡_, sym, ap, _∙_}
 use borrow.Author.Needs.{needs}
 use Rattle.integers.specs.Between.{stop, pass}
 use Rattle.geometry.specs.declared.SupportSet.{SupportSet}
-use Rattle.geometry.specs.Plane.{members}
-use Rattle.record.specs.Valid.{allInEmBox}
+use Rattle.geometry.specs.Plane.{allInEmBox, members}
 use Rattle.record.proofs.Row.{last-test}
 use Rattle.record.proofs.valid.all_in_em_box.Statement.{statement}
 use Rattle.record.proofs.valid.all_in_em_box.Tie as tie

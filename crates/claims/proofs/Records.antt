@@ -1,0 +1,42 @@
+-- Records: what the writer gives and leaves, and when two are equal.
+--
+--   written, filled    : a valid disk and points, in a buffer that is long enough: the writer is done, and the record stands in front
+--   written-valid      : what the writer does not refuse is valid, and the buffer long enough
+use mathlib.Core.Path.{_≡_, refl, sym, ap, _∙_, subst}
+use mathlib.Core.Bool.{true, _&&_}
+use mathlib.Core.List.{List, _++_}
+use Prim.Native.Nat.{ℕ, _≤_}
+use borrow.Author.Tests.{le-ltb, ltb-false, not-false}
+use lib.Dec.{ltb}
+use lib.ListN.{length, take, drop}
+use lib.Seq.{take-at}
+use Rattle.answers.specs.Outcome.{Outcome, given}
+use Rattle.answers.proofs.OutcomeLaws.{not-refused}
+use Rattle.geometry.specs.declared.Point.{Point}
+use Rattle.geometry.specs.declared.Disk.{Disk}
+use Rattle.integers.specs.Between.{first}
+use Rattle.geometry.specs.Plane.{allInEmBox}
+use Rattle.record.specs.Valid.{oneToThree, rising, validPoints, valid}
+use Rattle.record.specs.Bytes.{recordLength, recordBytes}
+use Rattle.record.specs.Writing.{writeOf, leftBy, bufferAfter}
+use Rattle.record.proofs.ByteLaws.{recordBytes-length}
+use Rattle.record.proofs.ValidLaws.{valid-points}
+
+counted : (d : Disk) (ps : List Point) → valid d ps ≡ true → oneToThree ps ≡ true
+unfolding validPoints
+counted d ps v = first (oneToThree ps) (rising ps && allInEmBox ps) (valid-points d ps v)
+
+module _ (d : Disk) (ps : List Point) (buf : List ℕ) where
+  pub written : valid d ps ≡ true → recordLength ≤ length buf → writeOf d ps buf ≡ given tt
+  written v h = rw (le-ltb (length buf) recordLength h, v)
+
+  pub written-valid : writeOf d ps buf ≡ given tt → (recordLength ≤ length buf) × (valid d ps ≡ true)
+  written-valid e =
+      let eight = not-refused _ 8 e in
+      let seven = not-refused _ 7 (eight .1) in
+      (ltb-false (length buf) recordLength (eight .0), not-false _ (seven .0))
+
+  pub filled : writeOf d ps buf ≡ given tt → take recordLength (bufferAfter d ps buf) ≡ recordBytes d ps
+  filled e =
+      ap (λ (o : Outcome (Unit {0})). take recordLength (leftBy o d ps buf)) e
+      ∙ take-at (recordBytes d ps) (drop recordLength buf) recordLength (recordBytes-length d ps (counted d ps (written-valid e .1)))

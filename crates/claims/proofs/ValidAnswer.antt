@@ -1,0 +1,80 @@
+-- The engine's answer is one that a record can hold.
+--
+--   valid-answer  : for a list of at least one point, all in the em box, the disk and the first support set are valid
+use mathlib.Core.Path.{_≡_, refl, sym, ap, _∙_, subst}
+use mathlib.Core.Bool.{Bool, true, _&&_}
+use mathlib.Core.List.{List, [], _∷_, List·Memᴰ·head, List·Memᴰ·tail}
+use Prim.Native.Nat.{ℕ, _*_, _≤_}
+use borrow.Author.Tests.{le-leb, eq-eqb}
+use lib.Dec.{T, leb, eqb}
+use lib.IntN.{ℤ, pos, negsuc, natAbs, _*ℤ_}
+use lib.ListN.{length}
+use lib.Signed.{leZ, _≤ℤ_}
+use Rattle.integers.specs.Between.{between}
+use Rattle.integers.specs.LowestTerms.{common, divides-x, divides-y, divides-e}
+use Rattle.geometry.specs.declared.Point.{Point}
+use Rattle.geometry.specs.declared.Disk.{Disk}
+use Rattle.geometry.specs.Plane.{inEmBox, allInEmBox}
+use Rattle.geometry.specs.Order.{before}
+use Rattle.disks.specs.Smallest.{In, Smallest}
+use Rattle.disks.specs.Procedure.{diskOf}
+use Rattle.disks.specs.Support.{firstSupport}
+use Rattle.disks.specs.FirstSupport.{Rising, IsSupport, IsFirstSupport}
+use Rattle.disks.specs.Limits.{Limits}
+use Rattle.disks.proofs.Welzl.{smallest}
+use Rattle.disks.proofs.Answer.{limits}
+use Rattle.disks.proofs.First.{first-support}
+use Rattle.record.specs.Valid.{scaleInLimit, centreInEmBox, squareInLimit, isLowest, validDisk, oneToThree, rising, validPoints, valid}
+use Rattle.engine.proofs.Found.{box-members}
+
+-- ---- rows of tests
+
+both : {a b : Bool} → a ≡ true → b ≡ true → a && b ≡ true
+both {b} h k = ap (λ (c : Bool). c && b) h ∙ k
+
+is-true : (b : Bool) → T b → b ≡ true
+is-true true t = refl
+
+is-T : {b : Bool} → b ≡ true → T b
+is-T e = subst T (sym e) tt
+
+test : {a b : ℤ} → a ≤ℤ b → leZ a b ≡ true
+test {a} {b} h = is-true (leZ a b) (h .le)
+
+-- ---- the disk
+
+valid-disk : {P : List Point} (d : Disk) → Smallest P d → Limits d → validDisk d ≡ true
+unfolding validDisk centreInEmBox
+valid-disk d s l =
+    both (both (le-leb 1 (d .e) (s .proper)) (le-leb (d .e) 2_000_000 (l .e-most)))
+    (both
+    (eq-eqb (common (d .x) (d .y) (d .e)) 1
+    (s .lowest (common (d .x) (d .y) (d .e)) (divides-x (d .x) (d .y) (d .e)) (divides-y (d .x) (d .y) (d .e)) (divides-e (d .x) (d .y) (d .e))))
+    (both (both (both (test (l .x-low)) (test (l .x-high))) (both (test (l .y-low)) (test (l .y-high))))
+    (le-leb (d .s) (500_000 * (d .e * d .e)) (l .s-most))))
+
+-- ---- the points
+
+rising-points : (S : List Point) → Rising S → rising S ≡ true
+unfolding rising
+rising-points [] r = refl
+rising-points (p ∷ []) r = refl
+rising-points (p ∷ q ∷ S) r = both (is-true (before p q) (r .0 q (List·Memᴰ·head refl))) (rising-points (q ∷ S) (r .1))
+
+all-in-box : (S : List Point) → ((p : Point) → In p S → T (inEmBox p)) → allInEmBox S ≡ true
+unfolding allInEmBox
+all-in-box [] h = refl
+all-in-box (p ∷ S) h = both (is-true (inEmBox p) (h p (List·Memᴰ·head refl))) (all-in-box S (λ q i. h q (List·Memᴰ·tail i)))
+
+valid-points : {P : List Point} (S : List Point) → IsSupport P S → ((p : Point) → In p P → T (inEmBox p)) → validPoints S ≡ true
+unfolding validPoints
+valid-points S s h =
+    both (both (le-leb 1 (length S) (s .some)) (le-leb (length S) 3 (s .most)))
+    (both (rising-points S (s .rises)) (all-in-box S (λ p i. h p (s .members p i))))
+
+pub valid-answer : (P : List Point) → (P ≡ [] → ⊥) → allInEmBox P ≡ true → valid (diskOf P) (firstSupport P) ≡ true
+unfolding valid
+valid-answer [] some box = absurd (some refl)
+valid-answer (p ∷ P) some box =
+    both (valid-disk (diskOf (p ∷ P)) (smallest p P) (limits p P (box-members (p ∷ P) box)))
+    (valid-points (firstSupport (p ∷ P)) (first-support p P .supports) (box-members (p ∷ P) box))

@@ -1,0 +1,52 @@
+-- Demand 2 of document 00, over the definitions that the contracts of `engine::smallest_disk`, `record::write_record` and
+-- `record::read_record` cite. It is shown in proofs/Demand2.antt.
+--
+--   EngineIsRight    == "The round given is the smallest enclosing disk of Welzl's paper: it holds every corner, no disk with a fractional
+--                       centre and fractional squared radius that holds them all has a smaller squared radius, and only the same disk has
+--                       an equal one. Its rim corners are the first set that fixes it, by document 01."
+--   RecordsGoRound   == "A record read back yields the disk and rim corners written, and a record accepted by the reader, written again,
+--                       yields its own bytes."
+--   Demand2          == both
+use mathlib.Core.Path.{_≡_}
+use mathlib.Core.List.{List}
+use Prim.Native.Nat.{ℕ, _≤_, _<_}
+use lib.IntN.{ℤ}
+use lib.ListN.{length, take, getD}
+use Rattle.answers.specs.Outcome.{given}
+use Rattle.geometry.specs.declared.Point.{Point}
+use Rattle.geometry.specs.declared.Disk.{Disk}
+use Rattle.geometry.specs.Points.{points}
+use Rattle.disks.specs.Smallest.{Smallest}
+use Rattle.disks.specs.FirstSupport.{IsFirstSupport}
+use Rattle.disks.specs.Limits.{Limits}
+use Rattle.engine.specs.Engine.{Enclosure, encloseOf}
+use Rattle.record.specs.Bytes.{recordLength}
+use Rattle.record.specs.Writing.{writeOf, bufferAfter}
+use Rattle.record.specs.Reading.{readOf}
+
+-- of the answer e for the points P
+pub record EngineIsRight (P : List Point) (e : Enclosure) : Type 0 where
+  pub smallest : Smallest P (e .disk)
+  pub no-other-disk : (d : Disk) → Smallest P d → d ≡ e .disk
+  pub limits : Limits (e .disk)
+  pub first-support : IsFirstSupport P (e .support)
+  pub no-other-support : (S : List Point) → IsFirstSupport P S → S ≡ e .support
+
+-- a list of bytes
+abbrev pub Bytes : List ℕ → Type 0
+Bytes bs = (i : ℕ) → getD bs i 0 < 256
+
+pub record RecordsGoRound : Type 0 where
+  -- what is written, in any buffer that is not refused, is read back
+  pub read-back :
+      (d : Disk) (ps : List Point) (buf : List ℕ) → writeOf d ps buf ≡ given tt
+      → readOf (take recordLength (bufferAfter d ps buf)) ≡ given (d, ps)
+  -- what is read, written again, in any buffer that is long enough, is not refused and gives its own bytes
+  pub write-back :
+      (bs : List ℕ) → Bytes bs → (d : Disk) (ps : List Point) → readOf bs ≡ given (d, ps)
+      → (buf : List ℕ) → recordLength ≤ length buf
+      → (writeOf d ps buf ≡ given tt) × (take recordLength (bufferAfter d ps buf) ≡ bs)
+
+pub record Demand2 : Type 0 where
+  pub engine : (l : List ℤ) (e : Enclosure) → encloseOf l ≡ given e → EngineIsRight (points l) e
+  pub records : RecordsGoRound

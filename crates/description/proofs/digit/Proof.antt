@@ -1,0 +1,20 @@
+use lib.Dec.{leb}
+use borrow.Author.Tests.{leb-true}
+use Rattle.integers.specs.Between.{first}
+use borrow.Author.Needs.{needs}
+use Rattle.description.proofs.digit.Statement.{statement}
+use Rattle.description.proofs.digit.Tie as tie
+use Rattle.description.proofs.digit.Reads as reads
+use Rattle.description.proofs.digit.Lts as lts
+
+sub-result : tie.Need-sub-result
+sub-result c = leb-true 48 (c .args .b) (first (leb 48 (c .args .b)) (leb (c .args .b) 57) (c .pre))
+
+cast-result : tie.Need-cast-result
+cast-result c = search needs
+
+returns : tie.Need-returns
+returns c = search needs
+
+pub digit-spec : {M : Type 1} → statement M
+digit-spec = tie.close (tie.spec sub-result cast-result returns)

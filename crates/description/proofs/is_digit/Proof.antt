@@ -1,0 +1,17 @@
+use mathlib.Core.Path.{refl}
+use lib.Dec.{leb}
+use borrow.Author.Tests.{le-leb, lt-leb}
+use Rattle.integers.specs.Between.{stop, pass}
+use Rattle.description.proofs.is_digit.Statement.{statement}
+use Rattle.description.proofs.is_digit.Tie as tie
+use Rattle.description.proofs.is_digit.Reads as reads
+use Rattle.description.proofs.is_digit.Lts as lts
+
+returns : tie.Need-returns
+returns c = stop (leb (c .before .args .b) 57) (lt-leb 48 (c .before .args .b) (c .if1 .taken))
+
+returns-2 : tie.Need-returns-2
+returns-2 c = pass (le-leb 48 (c .before .args .b) (c .if1 .left)) refl
+
+pub is-digit-spec : {M : Type 1} → statement M
+is-digit-spec = tie.close (tie.spec returns returns-2)

@@ -1,0 +1,17 @@
+use mir.Syntax.{w16}
+use native.Mathlib.Omega.{arith}
+use Rattle.integers.specs.Bounds.{nat-back}
+use borrow.Author.Needs.{needs}
+use Rattle.description.proofs.plus.Statement.{statement}
+use Rattle.description.proofs.plus.Tie as tie
+use Rattle.description.proofs.plus.Reads as reads
+use Rattle.description.proofs.plus.Lts as lts
+
+cast-result : tie.Need-cast-result
+cast-result c = search needs
+
+returns : tie.Need-returns
+returns c = nat-back w16 (c .args .v) 9999 (omega arith) tt
+
+pub plus-spec : {M : Type 1} → statement M
+plus-spec = tie.close (tie.spec cast-result returns)

@@ -1,0 +1,4 @@
+pub mod Box
+pub mod Checks
+pub mod Found
+pub mod Accepted

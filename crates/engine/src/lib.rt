@@ -1,0 +1,54 @@
+// The disk engine: the smallest enclosing disk of a list of points, its first support set and the test count.
+use answers::Refusal;
+use geometry::Disk;
+use geometry::SupportSet;
+ghost use mathlib.Core.Path.{_≡_};
+ghost use Prim.Native.Nat.{_%_};
+ghost use lib.ListN.{length};
+ghost use Rattle.geometry.specs.Plane.{allInEmBox};
+ghost use Rattle.geometry.specs.Points.{points};
+ghost use Rattle.engine.specs.Engine.{outcome, encloseOf, listAfter};
+
+pub enum Enclosed {
+    // The disk, its first support set, and how many tests the procedure made.
+    Found(Disk, SupportSet, u64),
+    Refused(Refusal),
+}
+
+// Whether every point of the list lies in the em box.
+fn all_in_em_box(list: &[i16]) -> bool
+    requires { ⌜ length (now list) % 2 ≡ 0 ⌝ }
+    ensures { λ r. ⌜ r ≡ allInEmBox (points (now (list .entry))) ⌝ }
+{
+    let n = list.len() / 2;
+    for i in 0..n {
+        if !geometry::in_em_box(geometry::point_at(list, i)) {
+            return false;
+        }
+    }
+    true
+}
+
+// The smallest disk that holds the list's points, by Welzl's move-to-front procedure (01: the disk engine). The list is left as the
+// procedure leaves it; a refused list is unchanged.
+pub fn smallest_disk(list: &mut [i16]) -> Enclosed
+    ensures answer { λ r. ⌜ outcome r ≡ encloseOf (now (list .entry)) ⌝ }
+    ensures order { λ _. ⌜ now (list .exit) ≡ listAfter (now (list .entry)) ⌝ }
+{
+    if list.len() % 2 == 1 {
+        return Enclosed::Refused(Refusal::OddLength);
+    }
+    if list.len() == 0 {
+        return Enclosed::Refused(Refusal::NoPoint);
+    }
+    if 4096 < list.len() / 2 {
+        return Enclosed::Refused(Refusal::TooMany);
+    }
+    if !all_in_em_box(list) {
+        return Enclosed::Refused(Refusal::OutsideBox);
+    }
+    let run = welzl::smallest(list);
+    let disk = run.disk;
+    let set = support::first_support(list, disk);
+    Enclosed::Found(disk, set, run.tests)
+}

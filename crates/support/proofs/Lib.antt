@@ -1,0 +1,7 @@
+pub mod Numbers
+pub mod PointRows
+pub mod Placing
+pub mod Boundary
+pub mod Left
+pub mod SetTests
+pub mod Found

@@ -1,0 +1,244 @@
+-- `welzl::mtf`, which calls itself, meets its contract. The measure is the room that is left in R.
+-- The loop's invariant is the promise itself, for the first i points, each of them tested once.
+use borrow.Author.Needs.{needs}
+use mathlib.Core.Path.{_≡_, sym, ap, _∙_}
+use mathlib.Core.Logic.{⊎-elim}
+use mathlib.Core.Bool.{true}
+use mathlib.Core.List.{List, _∷_, List·Memᴰ}
+use Prim.Native.Nat.{ℕ, _+_, _-_, _*_, _^_, _≤_, _<_}
+use native.Mathlib.Omega.{arith}
+use lib.ListN.{length}
+use borrow.Fn.Kinds.{In}
+use borrow.Fn.PlainCycle.{Measures, is, falls, and}
+use Rattle.geometry.specs.Plane.{inEmBox}
+use Rattle.geometry.specs.Points.{pointAt}
+use Rattle.geometry.proofs.PointLists.{pointAt-firstPoints}
+use Rattle.welzl.specs.Boundary.{roomIn, added}
+use Rattle.welzl.specs.Relative.{isOutside}
+use Rattle.welzl.specs.Ran.{Ran}
+use Rattle.welzl.proofs.RelativeLaws.{near-box}
+use Rattle.welzl.proofs.RunLaws.{room-falls}
+use Rattle.welzl.proofs.RanLaws.{ran-full, ran-none, ran-kept, ran-moved, ran-length, ran-tests, point-same, prefix-boxed, added-boxed}
+use Rattle.welzl.proofs.mtf.Reads as mtf
+use Rattle.welzl.proofs.mtf.Kinds as mtf-kinds
+use Rattle.welzl.proofs.+mtf.Lts-mtf as lts
+use Rattle.geometry.proofs.point_at.Reads as point-at-reads
+use Rattle.welzl.proofs.add_point.Reads as add-point-reads
+use Rattle.welzl.proofs.boundary_disk.Reads as boundary-disk-reads
+use Rattle.welzl.proofs.is_outside.Reads as is-outside-reads
+use Rattle.welzl.proofs.move_to_front.Reads as move-to-front-reads
+use Rattle.welzl.proofs.room.Reads as room-reads
+use Rattle.welzl.proofs.+mtf.{statement}
+use Rattle.welzl.proofs.+mtf.Tie.{close}
+
+abbrev μ-mtf : Measures 1 mtf-kinds.ps ℕ
+μ-mtf κs a = roomIn (a .1 .1 .0)
+
+-- what `mtf` is given at the measure t, and what a call of it asks below t
+abbrev mtf-at : ℕ → In 1 mtf-kinds.ps
+mtf-at t = and 1 mtf-kinds.ps (is 1 mtf-kinds.ps μ-mtf t) mtf.Pre
+
+abbrev mtf-below : ℕ → In 1 mtf-kinds.ps
+mtf-below t = and 1 mtf-kinds.ps (falls 1 mtf-kinds.ps _<_ μ-mtf t) mtf.Pre
+
+abbrev claims : ℕ → lts.Claims
+claims t = (
+  boundary-disk-reads.Asked,
+  boundary-disk-reads.Learnt,
+  room-reads.Asked,
+  room-reads.Learnt,
+  point-at-reads.Asked,
+  point-at-reads.Learnt,
+  is-outside-reads.Asked,
+  is-outside-reads.Learnt,
+  add-point-reads.Asked,
+  add-point-reads.Learnt,
+  mtf-below t,
+  mtf.Post,
+  move-to-front-reads.Asked,
+  move-to-front-reads.Learnt,
+)
+
+abbrev Inv-loop : lts.InvT-loop
+Inv-loop list₀ n fixed disk₀ inner₀ i₀ list disk inner i = (i ≤ n) × Ran fixed i list₀ list disk (inner + i)
+
+abbrev μ-loop : lts.MeasureT-loop
+μ-loop list₀ n fixed disk₀ inner₀ i₀ list disk inner i = n - i
+
+kept-sum : (k i : ℕ) → k + (i + 1) ≡ k + i + 1
+kept-sum k i = omega arith
+
+moved-sum : (k m i : ℕ) → k + m + (i + 1) ≡ k + i + 1 + m
+moved-sum k m i = omega arith
+
+module _ (t : ℕ) where
+  -- at the loop's head: the list has its length, the tests are far from wrapping, and R has room
+  abbrev At : Type 0
+  At = lts.At-loop (claims t) (mtf-at t) mtf.Post Inv-loop μ-loop
+
+  kept : (c : At) → length (c .loop .list) ≡ length (c .before .before .before .before .args .list .now)
+  kept c =
+      let s = c .before .before .before .before in
+      ran-length (s .args .fixed) (c .loop .i) (s .args .list .now) (c .loop .list) (c .loop .disk) (c .loop .inner + c .loop .i) (omega arith) (c .loop .inv .1)
+
+  counted : (c : At) → c .loop .inner + c .loop .i < 2 ^ 36
+  counted c =
+      let s = c .before .before .before .before in
+      ran-tests (s .args .fixed) (c .loop .i) (s .args .list .now) (c .loop .list) (c .loop .disk) (c .loop .inner + c .loop .i) (omega arith) (c .loop .inv .1) (omega arith)
+
+  more : (c : At) → roomIn (c .before .before .before .before .args .fixed) ≡ 0 → ⊥
+  more c e = c .before .if1 .left (c .before .before .room .ensures ∙ e)
+
+  -- in the loop: point i was there, is still there, and lies in the em box
+  abbrev InLoop : Type 0
+  InLoop = lts.In-loop (claims t) (mtf-at t) mtf.Post Inv-loop μ-loop
+
+  fits : (c : InLoop) → 2 * c .before .loop .i + 2 ≤ length (c .before .before .before .before .before .args .list .now)
+  fits c = omega (arith, c .loop-test .taken, c .before .before .before .before .before .pre .1 .fits)
+
+  same-point : (c : InLoop) → pointAt (c .before .loop .list) (c .before .loop .i) ≡ pointAt (c .before .before .before .before .before .args .list .now) (c .before .loop .i)
+  same-point c =
+      let at = c .before in
+      let s = at .before .before .before .before in
+      point-same (s .args .fixed) (at .loop .i) (s .args .list .now) (at .loop .list) (at .loop .disk) (at .loop .inner + at .loop .i) (more at) (fits c) (at .loop .inv .1)
+
+  boxed : (c : InLoop) → inEmBox (pointAt (c .before .before .before .before .before .args .list .now) (c .before .loop .i)) ≡ true
+  boxed c =
+      let s = c .before .before .before .before .before in
+      s .pre .1 .list-boxed .in-box _ (pointAt-firstPoints (c .before .loop .i) (s .args .n) (s .args .list .now) (c .loop-test .taken) (s .pre .1 .fits))
+
+  -- after the call: what it promises, with the set and the point as the definition has them
+  abbrev Called : Type 0
+  Called = lts.After-mtf (claims t) (mtf-at t) mtf.Post Inv-loop μ-loop
+
+  abbrev head : Called → At
+  head c = c .before .before .before .before .before .before .before .before
+
+  again :
+      (c : Called)
+      → Ran (added (head c .before .before .before .before .args .fixed) (pointAt (head c .loop .list) (head c .loop .i))) (head c .loop .i)
+      (head c .loop .list) (c .mtf .last .0) (c .mtf .result .disk) (c .mtf .result .tests)
+  again c =
+      rw (c .before .add-point .ensures, c .before .before .before .before .before .point-at .ensures) at (c .mtf .ensures)
+
+  boundary-disk-requires : lts.Need-boundary-disk-requires (claims t) (mtf-at t) mtf.Post Inv-loop μ-loop
+  boundary-disk-requires c κs = c .pre .1 .fixed-boxed
+
+  room-requires : lts.Need-room-requires (claims t) (mtf-at t) mtf.Post Inv-loop μ-loop
+  room-requires c κs = search needs
+
+  returns : lts.Need-returns (claims t) (mtf-at t) mtf.Post Inv-loop μ-loop
+  returns c =
+      let s = c .before .before .before in
+      ran-full (s .args .fixed) (s .args .n) (s .args .list .now) (c .before .before .boundary-disk .result)
+      (sym (c .before .room .ensures) ∙ c .if1 .taken) (s .pre .1 .fits) (c .before .before .boundary-disk .ensures)
+
+  loop-holds : lts.Need-loop-holds (claims t) (mtf-at t) mtf.Post Inv-loop μ-loop
+  loop-holds c =
+      let s = c .before .before .before in
+      (search needs, ran-none (s .args .fixed) (s .args .list .now) (c .before .before .boundary-disk .result) (c .before .before .boundary-disk .ensures))
+
+  point-at-requires : lts.Need-point-at-requires (claims t) (mtf-at t) mtf.Post Inv-loop μ-loop
+  point-at-requires c κs = omega (arith, kept (c .before .before))
+
+  is-outside-requires : lts.Need-is-outside-requires (claims t) (mtf-at t) mtf.Post Inv-loop μ-loop
+  is-outside-requires c κs =
+      let inside = c .before .before in
+      (inside .before .loop .inv .1 .disk-is .small, rw (c .point-at .ensures ∙ same-point inside) (near-box _ (boxed inside)))
+
+  add-point-requires : lts.Need-add-point-requires (claims t) (mtf-at t) mtf.Post Inv-loop μ-loop
+  add-point-requires c κs = search needs
+
+  mtf-requires : lts.Need-mtf-requires (claims t) (mtf-at t) mtf.Post Inv-loop μ-loop
+  mtf-requires c κs =
+      let inside = c .before .before .before .before .before .before in
+      let at = inside .before in
+      let s = at .before .before .before .before in
+      let R = s .args .fixed in
+      let l = s .args .list .now in
+      let i = at .loop .i in
+      let p-is = c .before .before .before .before .point-at .ensures ∙ same-point inside in (
+        rw (c .add-point .ensures, ← s .pre .0) (room-falls R (c .before .before .before .before .point-at .result) (more at)),
+        record {
+          few = omega (arith, inside .loop-test .taken, s .pre .1 .few);
+          fits = omega (arith, kept at, fits inside);
+          fixed-boxed = rw (c .add-point .ensures, p-is) (added-boxed R (pointAt l i) (s .pre .1 .fixed-boxed) (boxed inside));
+          list-boxed = prefix-boxed R i l (at .loop .list) (at .loop .disk) (at .loop .inner + at .loop .i) (more at) (fits inside) (at .loop .inv .1) (s .args .n) (at .loop .inv .0) (s .pre .1 .list-boxed);
+        },
+      )
+
+  add-inner : lts.Need-add-inner (claims t) (mtf-at t) mtf.Post Inv-loop μ-loop
+  add-inner c =
+      let m = c .before .before .before in
+      let at = head m in
+      omega (
+        arith,
+        counted at,
+        ran-tests (added (at .before .before .before .before .args .fixed) (pointAt (at .loop .list) (at .loop .i))) (at .loop .i) (at .loop .list) (m .mtf .last .0)
+            (m .mtf .result .disk) (m .mtf .result .tests) (omega (arith, kept at)) (again m) (omega arith),
+      )
+
+  move-to-front-requires : lts.Need-move-to-front-requires (claims t) (mtf-at t) mtf.Post Inv-loop μ-loop
+  move-to-front-requires c κs =
+      let m = c .before .before .before .before in
+      omega (arith, kept (head m), m .mtf .kept .0, fits (m .before .before .before .before .before .before .before))
+
+  add-i : lts.Need-add-i (claims t) (mtf-at t) mtf.Post Inv-loop μ-loop
+  add-i c = omega arith
+
+  loop-less : lts.Need-loop-less (claims t) (mtf-at t) mtf.Post Inv-loop μ-loop
+  loop-less c = omega arith
+
+  loop-again : lts.Need-loop-again (claims t) (mtf-at t) mtf.Post Inv-loop μ-loop
+  loop-again c =
+      let inside = c .before .before .before .before in
+      let at = inside .before in
+      let s = at .before .before .before .before in
+      let tested : isOutside (at .loop .disk) (pointAt (at .loop .list) (at .loop .i)) ≡ c .before .is-outside .result =
+      sym (c .before .is-outside .ensures ∙ ap (isOutside (at .loop .disk)) (c .before .before .point-at .ensures)) in (
+        omega arith,
+        ⊎-elim
+            (λ w.
+            let m : Called = record { before = record { before = record { before = record { before = c .before; if2 = w .0 }; mtf-arg = w .1 }; add-point = w .2 }; mtf = w .3 } in
+            rw (w .10, w .8 .ensures, w .11, w .12, moved-sum (at .loop .inner) (w .3 .result .tests) (at .loop .i))
+            (ran-moved (s .args .fixed) (at .loop .i) (s .args .list .now) (at .loop .list) (at .loop .disk) (at .loop .inner + at .loop .i) (more at) (fits inside) (at .loop .inv .1)
+            (w .3 .last .0) (w .3 .result .disk) (w .3 .result .tests) (boxed inside) (tested ∙ w .0 .taken) (again m)))
+            (λ w.
+            rw (w .1, w .2, w .3, kept-sum (at .loop .inner) (at .loop .i))
+            (ran-kept (s .args .fixed) (at .loop .i) (s .args .list .now) (at .loop .list) (at .loop .disk) (at .loop .inner + at .loop .i) (more at) (fits inside) (at .loop .inv .1)
+            (boxed inside) (tested ∙ w .0 .left)))
+            (c .if2 .came),
+      )
+
+  add-total : lts.Need-add-t22 (claims t) (mtf-at t) mtf.Post Inv-loop μ-loop
+  add-total c = omega (arith, counted (c .before))
+
+  same-length : lts.Need-same-length (claims t) (mtf-at t) mtf.Post Inv-loop μ-loop
+  same-length c = kept (c .before)
+
+  returns-2 : lts.Need-returns-2 (claims t) (mtf-at t) mtf.Post Inv-loop μ-loop
+  returns-2 c =
+      let at = c .before in
+      let e : at .loop .i ≡ at .before .before .before .before .args .n = omega arith in
+      rw e at (at .loop .inv .1)
+
+pub +mtf-spec : {M : Type 1} → statement M
++mtf-spec =
+    close μ-mtf λ t.
+    lts.spec (claims t) (mtf-at t) mtf.Post Inv-loop μ-loop
+    (boundary-disk-requires t)
+    (room-requires t)
+    (returns t)
+    (loop-holds t)
+    (point-at-requires t)
+    (is-outside-requires t)
+    (add-point-requires t)
+    (mtf-requires t)
+    (add-inner t)
+    (move-to-front-requires t)
+    (add-i t)
+    (loop-less t)
+    (loop-again t)
+    (add-total t)
+    (same-length t)
+    (returns-2 t)
