@@ -1,0 +1,79 @@
+//! The cutting radius and the preview (document 01, "Cutting radius and preview").
+
+use crate::geometry::{Disk, Point};
+use crate::record;
+use crate::refusal::Refusal;
+
+/// The least whole R, 0 or more, with R²E² at least S (document 01: the cutting radius): refusal 7.
+pub fn whole_radius(disk: &Disk, support: &[Point]) -> Result<u64, Refusal> {
+    record::check(disk, support)?;
+    Ok(least_radius(disk))
+}
+
+/// R·E is at least the root of S exactly if it is at least the root rounded up.
+fn least_radius(disk: &Disk) -> u64 {
+    let (s, e) = (disk.s.unsigned_abs(), disk.e.unsigned_abs());
+    let floor = s.isqrt();
+    let root = if floor * floor == s { floor } else { floor + 1 };
+    u64::try_from(root.div_ceil(e)).expect("a valid disk's radius is at most 708")
+}
+
+/// The centre and the whole radius as floats.
+#[derive(Clone, Copy, PartialEq, Debug)]
+pub struct Preview {
+    pub x: f64,
+    pub y: f64,
+    pub radius: f64,
+}
+
+/// The preview: refusal 7. The numbers of a valid disk are far below 2⁵³, so the conversions lose nothing.
+pub fn preview(disk: &Disk, support: &[Point]) -> Result<Preview, Refusal> {
+    let radius = whole_radius(disk, support)?;
+    let e = disk.e as f64;
+    Ok(Preview { x: disk.x as f64 / e, y: disk.y as f64 / e, radius: radius as f64 })
+}
+
+impl Preview {
+    /// The bits by which previews are compared.
+    pub fn bits(&self) -> [u64; 3] {
+        [self.x, self.y, self.radius].map(f64::to_bits)
+    }
+}
+
+#[cfg(test)]
+mod tests {
+    use super::*;
+    use crate::{engine, lists};
+
+    #[test]
+    fn the_radius_is_the_least() {
+        for case in lists::mixed(2_000, 40) {
+            let answer = engine::solve(&mut engine::flat(&case.points)).unwrap();
+            let r = i128::from(whole_radius(&answer.disk, &answer.support).unwrap());
+            let square = |r: i128| r * r * answer.disk.e * answer.disk.e;
+            assert!(square(r) >= answer.disk.s, "{}", case.name);
+            assert!(r == 0 || square(r - 1) < answer.disk.s, "{}", case.name);
+            assert!(r <= 708, "{}", case.name);
+        }
+    }
+
+    #[test]
+    fn the_preview_of_letter_f() {
+        let disk = Disk { x: 12, y: 5, e: 6, s: 169 };
+        let seen = preview(&disk, &[Point::new(0, 0)]).unwrap();
+        assert_eq!(seen, Preview { x: 2.0, y: 5.0 / 6.0, radius: 3.0 });
+    }
+
+    #[test]
+    fn zero_is_plus_zero() {
+        let disk = Disk { x: 0, y: 0, e: 1, s: 0 };
+        assert_eq!(preview(&disk, &[Point::new(0, 0)]).unwrap().bits(), [0, 0, 0]);
+    }
+
+    #[test]
+    fn what_no_record_holds_is_refused() {
+        let disk = Disk { x: 0, y: 0, e: 2, s: 0 };
+        assert_eq!(whole_radius(&disk, &[Point::new(0, 0)]), Err(Refusal::BadRecord));
+        assert_eq!(preview(&disk, &[Point::new(0, 0)]), Err(Refusal::BadRecord));
+    }
+}

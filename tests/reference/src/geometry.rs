@@ -1,0 +1,135 @@
+//! Points, disks and containment (document 01, "Disk and rim").
+
+/// A point (document 01: a corner). Points are ordered by x, then y.
+#[derive(Clone, Copy, PartialEq, Eq, PartialOrd, Ord, Hash, Debug)]
+pub struct Point {
+    pub x: i16,
+    pub y: i16,
+}
+
+/// The em box: the ranges that a point's x and y lie in.
+pub const BOX_X: std::ops::RangeInclusive<i16> = 0..=1000;
+pub const BOX_Y: std::ops::RangeInclusive<i16> = -250..=750;
+
+impl Point {
+    pub fn new(x: i16, y: i16) -> Point {
+        Point { x, y }
+    }
+
+    pub fn is_in_em_box(self) -> bool {
+        BOX_X.contains(&self.x) && BOX_Y.contains(&self.y)
+    }
+
+    fn wide(self) -> (i128, i128) {
+        (i128::from(self.x), i128::from(self.y))
+    }
+
+    fn norm(self) -> i128 {
+        let (x, y) = self.wide();
+        x * x + y * y
+    }
+}
+
+/// Centre (x/e, y/e), squared radius s/e² (document 01: X, Y, E, S).
+#[derive(Clone, Copy, PartialEq, Eq, Debug)]
+pub struct Disk {
+    pub x: i128,
+    pub y: i128,
+    pub e: i128,
+    pub s: i128,
+}
+
+pub fn gcd(a: i128, b: i128) -> i128 {
+    if b == 0 {
+        a.abs()
+    } else {
+        gcd(b, a % b)
+    }
+}
+
+impl Disk {
+    /// The disk with centre (x/e, y/e), e other than 0, and `through` on its boundary: written with e at least 1 and no common
+    /// divisor of x, y and e.
+    fn about(x: i128, y: i128, e: i128, through: Point) -> Disk {
+        let divisor = gcd(gcd(x, y), e) * e.signum();
+        let (x, y, e) = (x / divisor, y / divisor, e / divisor);
+        let mut disk = Disk { x, y, e, s: 0 };
+        disk.s = disk.scaled_square_distance(through);
+        disk
+    }
+
+    pub fn of_one(a: Point) -> Disk {
+        let (x, y) = a.wide();
+        Disk::about(x, y, 1, a)
+    }
+
+    /// The disk whose diameter is a b.
+    pub fn of_two(a: Point, b: Point) -> Disk {
+        let ((ax, ay), (bx, by)) = (a.wide(), b.wide());
+        Disk::about(ax + bx, ay + by, 2, a)
+    }
+
+    /// The disk with a, b and c on its boundary: none if they lie in a row.
+    pub fn of_three(a: Point, b: Point, c: Point) -> Option<Disk> {
+        let ((ax, ay), (bx, by), (cx, cy)) = (a.wide(), b.wide(), c.wide());
+        let (aa, bb, cc) = (a.norm(), b.norm(), c.norm());
+        let e = 2 * (ax * (by - cy) + bx * (cy - ay) + cx * (ay - by));
+        let x = aa * (by - cy) + bb * (cy - ay) + cc * (ay - by);
+        let y = aa * (cx - bx) + bb * (ax - cx) + cc * (bx - ax);
+        (e != 0).then(|| Disk::about(x, y, e, a))
+    }
+
+    /// (xE − X)² + (yE − Y)², to be compared with S.
+    pub fn scaled_square_distance(&self, p: Point) -> i128 {
+        let (x, y) = p.wide();
+        let (dx, dy) = (x * self.e - self.x, y * self.e - self.y);
+        dx * dx + dy * dy
+    }
+
+    pub fn holds(&self, p: Point) -> bool {
+        self.scaled_square_distance(p) <= self.s
+    }
+
+    /// Whether p is on the boundary (document 01: on the rim).
+    pub fn has_on_boundary(&self, p: Point) -> bool {
+        self.scaled_square_distance(p) == self.s
+    }
+
+    pub fn holds_all(&self, points: &[Point]) -> bool {
+        points.iter().all(|&p| self.holds(p))
+    }
+
+    /// Whether the radius is below the other's.
+    pub fn is_smaller_than(&self, other: &Disk) -> bool {
+        self.s * other.e * other.e < other.s * self.e * self.e
+    }
+}
+
+#[cfg(test)]
+mod tests {
+    use super::*;
+
+    #[test]
+    fn three_points_in_a_row_have_no_circle() {
+        let [a, b, c] = [Point::new(0, 0), Point::new(1, 2), Point::new(3, 6)];
+        assert_eq!(Disk::of_three(a, b, c), None);
+        assert_eq!(Disk::of_three(a, a, c), None);
+    }
+
+    #[test]
+    fn the_circle_does_not_depend_on_the_order() {
+        let [a, b, c] = [Point::new(0, -250), Point::new(1000, -247), Point::new(1, 750)];
+        let disk = Disk::of_three(a, b, c).unwrap();
+        assert_eq!(disk.e, 1_999_994);
+        for other in [Disk::of_three(b, a, c), Disk::of_three(c, b, a), Disk::of_three(b, c, a)] {
+            assert_eq!(other, Some(disk));
+        }
+        assert!([a, b, c].iter().all(|&p| disk.has_on_boundary(p)));
+    }
+
+    #[test]
+    fn disks_are_in_lowest_terms() {
+        let disk = Disk::of_two(Point::new(0, 0), Point::new(4, 0));
+        assert_eq!(disk, Disk { x: 2, y: 0, e: 1, s: 4 });
+    }
+}

@@ -1,0 +1,40 @@
+//! An independent implementation of document 01, exact on 128-bit integers.
+//!
+//! It shares nothing with the product: no code, no formula of its engine, not even its algorithm for the disk. The expected
+//! values of the tests come from here or from document 01 itself.
+//!
+//! | Module | What it is |
+//! |---|---|
+//! | [`refusal`] | the refusal numbers |
+//! | [`geometry`] | points, disks in lowest terms, containment, the disks of one, two and three points |
+//! | [`smallest`] | the smallest enclosing disk, by growing a set of at most three points |
+//! | [`support`] | the first support set (document 01: rim set), by trying all in order |
+//! | [`procedure`] | Welzl's B_MTFDISK, transcribed: count of tests and order left |
+//! | [`engine`] | the disk engine: checks, then the four answers |
+//! | [`description`] | the loader |
+//! | [`sheet`] | the sheet opener |
+//! | [`record`] | validity, writer and reader |
+//! | [`figures`] | the cutting radius and the preview |
+//! | [`listing`] | what the listing program prints |
+//! | [`random`], [`lists`], [`damage`] | drawn lists, descriptions, sheets and records, each by its seed |
+//! | [`worst`] | lists that cost many tests |
+//! | [`letters`] | the letters A to K of document 01 |
+//! | [`vectors`] | the stored cases and their layout |
+
+pub mod damage;
+pub mod description;
+pub mod engine;
+pub mod figures;
+pub mod geometry;
+pub mod letters;
+pub mod listing;
+pub mod lists;
+pub mod procedure;
+pub mod random;
+pub mod record;
+pub mod refusal;
+pub mod sheet;
+pub mod smallest;
+pub mod support;
+pub mod vectors;
+pub mod worst;

@@ -1,0 +1,257 @@
+//! Drawn point lists, each by its seed: the kinds that letters are like, and those that are hard to get right.
+
+use crate::geometry::Point;
+use crate::random::Random;
+use crate::worst;
+
+/// A drawn list; the name says how to draw it again.
+pub struct Case {
+    pub name: String,
+    pub points: Vec<Point>,
+}
+
+#[derive(Clone, Copy, PartialEq, Eq, Debug)]
+pub enum Kind {
+    /// Anywhere in the em box.
+    Uniform,
+    /// In a box of a few units: many ties.
+    SmallBox,
+    /// A few points, each many times.
+    Repeats,
+    /// In a row, at times with a point beside it.
+    Row,
+    /// On a common circle, with repeats, at times with points inside.
+    Circle,
+    /// Around a large circle, in order.
+    Convex,
+    /// Along the edges of polygons, as an outline file has them.
+    Outline,
+    /// The corners of the em box and points near its edges.
+    Edges,
+    /// Round and round, from the inside out: many points are outside when they are tested.
+    Growing,
+    /// From the inside out, in any direction: the same.
+    ByDistance,
+}
+
+pub const KINDS: [Kind; 10] = [
+    Kind::Uniform,
+    Kind::SmallBox,
+    Kind::Repeats,
+    Kind::Row,
+    Kind::Circle,
+    Kind::Convex,
+    Kind::Outline,
+    Kind::Edges,
+    Kind::Growing,
+    Kind::ByDistance,
+];
+
+/// A list of n points of the kind.
+pub fn draw(kind: Kind, n: usize, random: &mut Random) -> Vec<Point> {
+    match kind {
+        Kind::Uniform => in_box(n, random, (0, 1000), (-250, 750)),
+        Kind::SmallBox => small_box(n, random),
+        Kind::Repeats => repeats(n, random),
+        Kind::Row => row(n, random),
+        Kind::Circle => circle(n, random),
+        Kind::Convex => convex(n, random),
+        Kind::Outline => outline(n, random),
+        Kind::Edges => edges(n, random),
+        Kind::Growing => worst::growing(n, random),
+        Kind::ByDistance => worst::by_distance(n, random),
+    }
+}
+
+/// `count` lists of all kinds, of 1 to `longest` points.
+pub fn mixed(count: u64, longest: usize) -> impl Iterator<Item = Case> {
+    (0..count).map(move |seed| {
+        let mut random = Random::new(seed);
+        let kind = KINDS[seed as usize % KINDS.len()];
+        let n = 1 + random.below(longest);
+        Case { name: format!("{kind:?}, seed {seed}, {n} points"), points: draw(kind, n, &mut random) }
+    })
+}
+
+/// Lists of 500 to 4,096 points, of each kind.
+pub fn long() -> Vec<Case> {
+    let draw_long = |(kind, n): (Kind, usize)| {
+        let points = draw(kind, n, &mut Random::new(n as u64));
+        Case { name: format!("{kind:?}, {n} points"), points }
+    };
+    KINDS.into_iter().flat_map(|kind| [500, 1_500, 4_096].map(|n| (kind, n))).map(draw_long).collect()
+}
+
+fn in_box(n: usize, random: &mut Random, x: (i16, i16), y: (i16, i16)) -> Vec<Point> {
+    (0..n).map(|_| Point::new(random.coordinate(x.0, x.1), random.coordinate(y.0, y.1))).collect()
+}
+
+fn small_box(n: usize, random: &mut Random) -> Vec<Point> {
+    let side = random.coordinate(0, 9);
+    let x = random.coordinate(0, 1000 - side);
+    let y = random.coordinate(-250, 750 - side);
+    in_box(n, random, (x, x + side), (y, y + side))
+}
+
+fn repeats(n: usize, random: &mut Random) -> Vec<Point> {
+    let different = 1 + random.below(6);
+    let few = draw(random.pick(&[Kind::Uniform, Kind::SmallBox, Kind::Circle]), different, random);
+    (0..n).map(|_| random.pick(&few)).collect()
+}
+
+/// The points of a row through the box: the start, and a step that stays in it.
+fn row(n: usize, random: &mut Random) -> Vec<Point> {
+    let step = (random.between(-9, 9), random.between(-9, 9));
+    let start = (random.between(0, 1000), random.between(-250, 750));
+    let at = |t: i64| (start.0 + t * step.0, start.1 + t * step.1);
+    let on_row: Vec<Point> = (-120..=120).filter_map(|t| point_in_box(at(t))).collect();
+    let mut points: Vec<Point> = (0..n).map(|_| random.pick(&on_row)).collect();
+    if random.chance(20) {
+        let place = random.below(n);
+        points[place] = draw(Kind::Uniform, 1, random)[0];
+    }
+    points
+}
+
+fn point_in_box((x, y): (i64, i64)) -> Option<Point> {
+    let p = Point::new(i16::try_from(x).ok()?, i16::try_from(y).ok()?);
+    p.is_in_em_box().then_some(p)
+}
+
+/// Squared radii with many points on their circles: products of primes that are sums of two squares.
+const RICH: [i64; 16] = [1, 5, 25, 65, 85, 125, 325, 425, 725, 1_105, 5_525, 8_125, 27_625, 71_825, 138_125, 160_225];
+
+fn circle(n: usize, random: &mut Random) -> Vec<Point> {
+    let all = rich_circle(random);
+    let few = random.pick(&[3, 4, 5, 8, 200]);
+    let chosen: Vec<Point> = (0..few).map(|_| random.pick(&all)).collect();
+    let mut points: Vec<Point> = (0..n).map(|_| random.pick(&chosen)).collect();
+    if random.chance(30) {
+        let center = middle(&all);
+        for p in points.iter_mut().step_by(3) {
+            *p = halfway(*p, center);
+        }
+    }
+    points
+}
+
+/// All lattice points of a circle about a lattice point or the middle of a unit square, as far as they lie in the box.
+fn rich_circle(random: &mut Random) -> Vec<Point> {
+    let half = random.between(0, 1);
+    let square = random.pick(&RICH) * if half == 1 { 2 } else { 4 };
+    let reach = (square as u64).isqrt() as i64;
+    let least = (reach + 1) / 2;
+    let x = 2 * random.between(least, 1000 - least) + half;
+    let y = 2 * random.between(least - 250, 750 - least) + half;
+    let on_circle: Vec<Point> = (-reach..=reach).flat_map(|dx| on_column(x, y, dx, square)).collect();
+    assert!(!on_circle.is_empty());
+    on_circle
+}
+
+/// The lattice points at doubled distance dx from the doubled centre (x, y) on the circle of doubled squared radius `square`.
+fn on_column(x: i64, y: i64, dx: i64, square: i64) -> Vec<Point> {
+    let rest = square - dx * dx;
+    let dy = (rest as u64).isqrt() as i64;
+    let is_lattice = dy * dy == rest && (x + dx) % 2 == 0 && (y + dy) % 2 == 0;
+    let ends = [dy, -dy].into_iter().filter(|_| is_lattice);
+    ends.filter_map(|dy| point_in_box(((x + dx) / 2, (y + dy) / 2))).collect()
+}
+
+fn middle(points: &[Point]) -> Point {
+    let least = points.iter().min().expect("a circle has points");
+    let most = points.iter().max().expect("a circle has points");
+    halfway(*least, *most)
+}
+
+fn halfway(a: Point, b: Point) -> Point {
+    Point::new((a.x + b.x) / 2, (a.y + b.y) / 2)
+}
+
+/// Point k of n around the circle of the given radius about (500, 250), rounded to the lattice, by whole numbers alone.
+pub fn around(k: usize, n: usize, radius: i64) -> Point {
+    let (k, n) = (k as i64 % n as i64, n as i64);
+    let quarter = 4 * k / n;
+    // tan of half the angle within the quarter is f / n.
+    let f = 4 * k - quarter * n;
+    let scale = n * n + f * f;
+    let (x, y) = (radius * (n * n - f * f) / scale, radius * 2 * f * n / scale);
+    let (x, y) = match quarter {
+        0 => (x, y),
+        1 => (-y, x),
+        2 => (-x, -y),
+        _ => (y, -x),
+    };
+    Point::new((500 + x) as i16, (250 + y) as i16)
+}
+
+fn convex(n: usize, random: &mut Random) -> Vec<Point> {
+    let radius = random.between(20, 500);
+    let turn = random.below(n);
+    let mut points: Vec<Point> = (0..n).map(|k| around(k + turn, n, radius)).collect();
+    if random.chance(30) {
+        points.reverse();
+    }
+    points
+}
+
+/// One to three closed polygons of 3 to 12 vertices, their edges walked in even steps.
+fn outline(n: usize, random: &mut Random) -> Vec<Point> {
+    let contours = 1 + random.below(3);
+    let mut points = Vec::with_capacity(n);
+    while points.len() < n {
+        let left = n - points.len();
+        let length = if points.len() * contours < n { n.div_ceil(contours).min(left) } else { left };
+        points.extend(contour(length, random));
+    }
+    points
+}
+
+fn contour(n: usize, random: &mut Random) -> Vec<Point> {
+    let sides = (3 + random.below(10)).min(n);
+    let vertices: Vec<Point> = (0..sides).map(|k| around(k, sides, random.between(60, 500))).collect();
+    (0..n).map(|i| along(&vertices, i, n)).collect()
+}
+
+/// Point i of n on the way round the polygon.
+fn along(vertices: &[Point], i: usize, n: usize) -> Point {
+    let side = i * vertices.len() / n;
+    let (from, to) = (vertices[side], vertices[(side + 1) % vertices.len()]);
+    let (part, whole) = ((i * vertices.len() % n) as i64, n as i64);
+    let mix = |a: i16, b: i16| (i64::from(a) + (i64::from(b) - i64::from(a)) * part / whole) as i16;
+    Point::new(mix(from.x, to.x), mix(from.y, to.y))
+}
+
+fn edges(n: usize, random: &mut Random) -> Vec<Point> {
+    let near = random.coordinate(0, 3);
+    let edge = |least: i16, most: i16, random: &mut Random| match random.below(3) {
+        0 => random.coordinate(least, least + near),
+        1 => random.coordinate(most - near, most),
+        _ => random.coordinate(least, most),
+    };
+    (0..n).map(|_| Point::new(edge(0, 1000, random), edge(-250, 750, random))).collect()
+}
+
+#[cfg(test)]
+mod tests {
+    use super::*;
+
+    #[test]
+    fn lists_have_their_length_and_stay_in_the_box() {
+        for kind in KINDS {
+            for n in [1, 2, 3, 7, 100, 4_096] {
+                for seed in 0..20 {
+                    let points = draw(kind, n, &mut Random::new(seed));
+                    assert_eq!(points.len(), n, "{kind:?}");
+                    assert!(points.iter().all(|p| p.is_in_em_box()), "{kind:?} {n} {seed}");
+                }
+            }
+        }
+    }
+
+    #[test]
+    fn circles_have_many_points() {
+        let sizes: Vec<usize> = (0..200).map(|seed| rich_circle(&mut Random::new(seed)).len()).collect();
+        assert!(sizes.iter().any(|&size| size >= 48), "{sizes:?}");
+        assert!(sizes.iter().all(|&size| size >= 4), "{sizes:?}");
+    }
+}

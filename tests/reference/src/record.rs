@@ -1,0 +1,170 @@
+//! The record: validity, writer and reader (document 01, "Description, sheet, record").
+
+use crate::geometry::{gcd, Disk, Point};
+use crate::refusal::Refusal;
+use crate::support::SupportSet;
+
+pub const RECORD_LENGTH: usize = 44;
+
+/// Whether a valid record can hold the disk and support set: refusal 7 if not.
+pub fn check(disk: &Disk, support: &[Point]) -> Result<(), Refusal> {
+    if is_valid_disk(disk) && is_valid_support(support) {
+        Ok(())
+    } else {
+        Err(Refusal::BadRecord)
+    }
+}
+
+fn is_valid_disk(disk: &Disk) -> bool {
+    let Disk { x, y, e, s } = *disk;
+    (1..=2_000_000).contains(&e)
+        && gcd(gcd(x, y), e) == 1
+        && (0..=1000 * e).contains(&x)
+        && (-250 * e..=750 * e).contains(&y)
+        && (0..=500_000 * e * e).contains(&s)
+}
+
+fn is_valid_support(support: &[Point]) -> bool {
+    (1..=3).contains(&support.len()) && support.is_sorted_by(|a, b| a < b) && support.iter().all(|p| p.is_in_em_box())
+}
+
+/// Fills the first 44 bytes of the buffer: refusals 8, 7, and then the buffer is unchanged.
+pub fn write(disk: &Disk, support: &[Point], buffer: &mut [u8]) -> Result<(), Refusal> {
+    let Some(place) = buffer.get_mut(..RECORD_LENGTH) else {
+        return Err(Refusal::NoRoom);
+    };
+    check(disk, support)?;
+    place.copy_from_slice(&bytes_of(disk, support));
+    Ok(())
+}
+
+/// The 44 bytes of a disk whose numbers fit 64 bits and a support set of one to three points.
+pub fn bytes_of(disk: &Disk, support: &[Point]) -> Vec<u8> {
+    let mut bytes = Vec::with_capacity(RECORD_LENGTH);
+    for number in [disk.x, disk.y, disk.e, disk.s] {
+        // The low 64 bits: signed numbers in two's complement.
+        bytes.extend_from_slice(&number.to_be_bytes()[8..]);
+    }
+    for i in 0..3 {
+        let p = support[i.min(support.len() - 1)];
+        bytes.extend_from_slice(&p.x.to_be_bytes());
+        bytes.extend_from_slice(&p.y.to_be_bytes());
+    }
+    bytes
+}
+
+/// The disk and support set of a record: refusal 7.
+pub fn read(bytes: &[u8]) -> Result<(Disk, SupportSet), Refusal> {
+    if bytes.len() != RECORD_LENGTH {
+        return Err(Refusal::BadRecord);
+    }
+    let disk = Disk {
+        x: i128::from(word_at(bytes, 0).cast_signed()),
+        y: i128::from(word_at(bytes, 8).cast_signed()),
+        e: i128::from(word_at(bytes, 16)),
+        s: i128::from(word_at(bytes, 24)),
+    };
+    let support = without_repeats_of_the_last([32, 36, 40].map(|at| point_at(bytes, at)));
+    check(&disk, &support)?;
+    Ok((disk, support))
+}
+
+fn word_at(bytes: &[u8], at: usize) -> u64 {
+    bytes[at..at + 8].iter().fold(0, |word, &byte| word << 8 | u64::from(byte))
+}
+
+fn point_at(bytes: &[u8], at: usize) -> Point {
+    let number = |at| i16::from_be_bytes([bytes[at], bytes[at + 1]]);
+    Point::new(number(at), number(at + 2))
+}
+
+fn without_repeats_of_the_last([a, b, c]: [Point; 3]) -> SupportSet {
+    if b != c {
+        vec![a, b, c]
+    } else if a != b {
+        vec![a, b]
+    } else {
+        vec![a]
+    }
+}
+
+#[cfg(test)]
+mod tests {
+    use super::*;
+    use crate::{damage, random::Random};
+
+    const F: Disk = Disk { x: 12, y: 5, e: 6, s: 169 };
+
+    fn f_support() -> SupportSet {
+        vec![Point::new(0, 0), Point::new(2, 3), Point::new(4, 0)]
+    }
+
+    #[test]
+    fn the_record_of_letter_f() {
+        let mut buffer = [0xEE; 50];
+        assert_eq!(write(&F, &f_support(), &mut buffer), Ok(()));
+        let mut expected = [0u8; 44];
+        (expected[7], expected[15], expected[23], expected[31]) = (12, 5, 6, 169);
+        (expected[37], expected[39], expected[41]) = (2, 3, 4);
+        assert_eq!(buffer[..44], expected);
+        assert_eq!(buffer[44..], [0xEE; 6]);
+        assert_eq!(read(&expected), Ok((F, f_support())));
+    }
+
+    #[test]
+    fn refused_writes_change_nothing() {
+        let mut short = [1; 43];
+        let bad = Disk { e: 0, ..F };
+        assert_eq!(write(&bad, &f_support(), &mut short), Err(Refusal::NoRoom));
+        assert_eq!(short, [1; 43]);
+        let mut buffer = [1; 44];
+        assert_eq!(write(&bad, &f_support(), &mut buffer), Err(Refusal::BadRecord));
+        assert_eq!(buffer, [1; 44]);
+    }
+
+    #[test]
+    fn disks_at_the_limits() {
+        let e = 2_000_000;
+        let at_limit = Disk { x: 1, y: 750 * e, e, s: 500_000 * e * e };
+        let valid = |disk| check(&disk, &f_support()).is_ok();
+        assert!(valid(at_limit));
+        assert!(!valid(Disk { s: at_limit.s + 1, ..at_limit }));
+        assert!(!valid(Disk { y: 750 * e + 1, ..at_limit }));
+        assert!(!valid(Disk { x: -1, ..at_limit }));
+        assert!(!valid(Disk { x: 2, ..at_limit }), "a common divisor");
+        assert!(!valid(Disk { e: e + 1, s: 0, ..at_limit }));
+        assert!(valid(Disk { x: 0, y: 0, e: 1, s: 0 }));
+        assert!(!valid(Disk { x: 0, y: 0, e: 2, s: 0 }));
+        assert!(valid(Disk { x: 1000, y: -250, e: 1, s: 500_000 }));
+        assert!(!valid(Disk { x: 1001, y: -250, e: 1, s: 0 }));
+        assert!(!valid(Disk { x: 1000, y: -251, e: 1, s: 0 }));
+    }
+
+    #[test]
+    fn only_the_last_point_is_repeated() {
+        let [a, b, c] = [Point::new(0, 0), Point::new(0, 1), Point::new(1, -1)];
+        let bytes = |points: [Point; 3]| bytes_of(&F, &points);
+        assert_eq!(read(&bytes([a, b, c])).unwrap().1, [a, b, c]);
+        assert_eq!(read(&bytes([a, b, b])).unwrap().1, [a, b]);
+        assert_eq!(read(&bytes([b, b, b])).unwrap().1, [b]);
+        for faulty in [[a, a, b], [a, b, a], [b, a, a], [c, b, a], [a, c, b]] {
+            assert_eq!(read(&bytes(faulty)), Err(Refusal::BadRecord));
+        }
+    }
+
+    #[test]
+    fn accepted_records_written_again_are_the_same_bytes() {
+        let mut random = Random::new(44);
+        let mut accepted = 0;
+        for _ in 0..20_000 {
+            let bytes = damage::record(&mut random);
+            if let Ok((disk, support)) = read(&bytes) {
+                let mut again = [0; RECORD_LENGTH];
+                assert_eq!(write(&disk, &support, &mut again), Ok(()));
+                assert_eq!(again[..], bytes[..]);
+                accepted += 1;
+            }
+        }
+        assert!((5_000..15_000).contains(&accepted), "{accepted} of 20,000 accepted");
+    }
+}

@@ -1,0 +1,28 @@
+//! Why a call turns its input down (document 01, "What a refused call hands back").
+
+/// A refusal; its number is the one that document 01 gives.
+#[derive(Clone, Copy, PartialEq, Eq, Debug)]
+pub enum Refusal {
+    TooLong = 1,
+    BadLine = 2,
+    OutsideBox = 3,
+    TooMany = 4,
+    NoPoint = 5,
+    BadSheet = 6,
+    BadRecord = 7,
+    NoRoom = 8,
+    OddLength = 9,
+    NoGlyph = 10,
+}
+
+impl Refusal {
+    pub fn number(self) -> u8 {
+        self as u8
+    }
+}
+
+/// A description or sheet has at most this many bytes.
+pub const MOST_BYTES: usize = 65_535;
+
+/// A list has at most this many points.
+pub const MOST_POINTS: usize = 4_096;

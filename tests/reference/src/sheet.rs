@@ -1,0 +1,107 @@
+//! The sheet opener (document 01, "Description, sheet, record").
+
+use crate::refusal::{Refusal, MOST_BYTES};
+use std::ops::Range;
+
+/// Where part k lies in the sheet: refusals 1, 6, 10.
+pub fn glyph(sheet: &[u8], k: usize) -> Result<Range<usize>, Refusal> {
+    if sheet.len() > MOST_BYTES {
+        return Err(Refusal::TooLong);
+    }
+    let parts = directory(sheet).ok_or(Refusal::BadSheet)?;
+    if !are_in_order(&parts, sheet.len()) {
+        return Err(Refusal::BadSheet);
+    }
+    parts.get(k).cloned().ok_or(Refusal::NoGlyph)
+}
+
+fn number_at(sheet: &[u8], at: usize) -> Option<usize> {
+    let bytes = sheet.get(at..at + 2)?;
+    Some(usize::from(bytes[0]) * 256 + usize::from(bytes[1]))
+}
+
+/// The parts that the directory names; none if the sheet is shorter than its directory.
+fn directory(sheet: &[u8]) -> Option<Vec<Range<usize>>> {
+    let count = number_at(sheet, 0)?;
+    let part = |k| {
+        let offset = number_at(sheet, 2 + 4 * k)?;
+        let length = number_at(sheet, 4 + 4 * k)?;
+        Some(offset..offset + length)
+    };
+    (0..count).map(part).collect()
+}
+
+/// Each part starts at or after the end of what lies before it, the first at or after the directory's, and the last ends within the
+/// sheet. So every part does.
+fn are_in_order(parts: &[Range<usize>], length: usize) -> bool {
+    let mut free = 2 + 4 * parts.len();
+    for part in parts {
+        if part.start < free {
+            return false;
+        }
+        free = part.end;
+    }
+    free <= length
+}
+
+/// A sheet's bytes: the directory as given, whatever it says, then the body.
+pub fn with_directory(pairs: &[(u16, u16)], body: &[u8]) -> Vec<u8> {
+    let count = u16::try_from(pairs.len()).expect("a count has 16 bits");
+    let mut sheet = count.to_be_bytes().to_vec();
+    for (offset, length) in pairs {
+        sheet.extend_from_slice(&offset.to_be_bytes());
+        sheet.extend_from_slice(&length.to_be_bytes());
+    }
+    sheet.extend_from_slice(body);
+    sheet
+}
+
+#[cfg(test)]
+mod tests {
+    use super::*;
+
+    fn opened(pairs: &[(u16, u16)], body: &[u8], k: usize) -> Result<Vec<u8>, u8> {
+        let sheet = with_directory(pairs, body);
+        let part = glyph(&sheet, k).map_err(Refusal::number)?;
+        Ok(sheet[part].to_vec())
+    }
+
+    #[test]
+    fn parts_gaps_and_empty_parts() {
+        let pairs = [(18, 2), (20, 0), (20, 1), (23, 0)];
+        let body = [1, 2, 3, 4, 5];
+        assert_eq!(opened(&pairs, &body, 0), Ok(vec![1, 2]));
+        assert_eq!(opened(&pairs, &body, 1), Ok(vec![]));
+        assert_eq!(opened(&pairs, &body, 2), Ok(vec![3]));
+        assert_eq!(opened(&pairs, &body, 3), Ok(vec![]));
+        assert_eq!(opened(&pairs, &body, 4), Err(10));
+        assert_eq!(opened(&pairs, &body, usize::MAX), Err(10));
+    }
+
+    #[test]
+    fn rules_that_pairs_break() {
+        assert_eq!(opened(&[(5, 1)], &[1, 2], 0), Err(6), "starts in the directory");
+        assert_eq!(opened(&[(10, 2), (11, 1)], &[1, 2], 0), Err(6), "starts in the part before");
+        assert_eq!(opened(&[(11, 1), (10, 1)], &[1, 2], 0), Err(6), "not sorted");
+        assert_eq!(opened(&[(6, 3)], &[1, 2], 0), Err(6), "ends beyond the sheet");
+        assert_eq!(opened(&[(9, 0)], &[1, 2], 0), Err(6), "starts beyond the sheet");
+        assert_eq!(opened(&[(8, 0)], &[1, 2], 0), Ok(vec![]), "starts at the sheet's end");
+        assert_eq!(opened(&[(5, 1)], &[1, 2], 7), Err(6), "6 before 10");
+    }
+
+    #[test]
+    fn short_sheets_and_long_ones() {
+        let refusal = |sheet: &[u8], k| glyph(sheet, k).map_err(Refusal::number);
+        assert_eq!(refusal(&[], 0), Err(6));
+        assert_eq!(refusal(&[0], 0), Err(6));
+        assert_eq!(refusal(&[0, 0], 0), Err(10));
+        assert_eq!(refusal(&[0, 1, 0, 6, 0], 0), Err(6));
+        assert_eq!(refusal(&[0, 1, 0, 6, 0, 0], 0), Ok(6..6));
+        assert_eq!(refusal(&[255; 65_535], 0), Err(6));
+        assert_eq!(refusal(&[255; 65_536], 0), Err(1));
+        let mut long = with_directory(&[(6, 65_529)], &[9; 65_529]);
+        assert_eq!(refusal(&long, 0), Ok(6..65_535));
+        long.push(9);
+        assert_eq!(refusal(&long, 0), Err(1));
+    }
+}
