@@ -14,15 +14,34 @@ use Rattle.claims.specs.Letters.{Letter, Holds, letters, AllHold}
 
 pub letters-hold : AllHold letters
 unfolding gcd steps holds inEmBox allInEmBox before points flat outside lowestTerms diameterDisk turnedBy circle boundaryDisk tested step through run insert sorted fronted choose sameDisk supports firstOf firstSupport encloseOf listAfter least firstFrom centreInEmBox validDisk rising validPoints valid
-letters-hold =
-    (record { answer = refl; order = refl; whole = refl },
-    (record { answer = refl; order = refl; whole = refl },
-    (record { answer = refl; order = refl; whole = refl },
-    (record { answer = refl; order = refl; whole = refl },
-    (record { answer = refl; order = refl; whole = refl },
-    (record { answer = refl; order = refl; whole = refl },
-    (record { answer = refl; order = refl; whole = refl },
-    (record { answer = refl; order = refl; whole = refl },
-    (record { answer = refl; order = refl; whole = refl },
-    (record { answer = refl; order = refl; whole = refl },
-    (record { answer = refl; order = refl; whole = refl }, tt)))))))))))
+letters-hold = (
+  record { answer = refl; order = refl; whole = refl },
+  (
+    record { answer = refl; order = refl; whole = refl },
+    (
+      record { answer = refl; order = refl; whole = refl },
+      (
+        record { answer = refl; order = refl; whole = refl },
+        (
+          record { answer = refl; order = refl; whole = refl },
+          (
+            record { answer = refl; order = refl; whole = refl },
+            (
+              record { answer = refl; order = refl; whole = refl },
+              (
+                record { answer = refl; order = refl; whole = refl },
+                (
+                  record { answer = refl; order = refl; whole = refl },
+                  (
+                    record { answer = refl; order = refl; whole = refl },
+                    (record { answer = refl; order = refl; whole = refl }, tt),
+                  ),
+                ),
+              ),
+            ),
+          ),
+        ),
+      ),
+    ),
+  ),
+)

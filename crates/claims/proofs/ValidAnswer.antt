@@ -3,7 +3,7 @@
 --   valid-answer  : for a list of at least one point, all in the em box, the disk and the first support set are valid
 use mathlib.Core.Path.{_≡_, refl, sym, ap, _∙_, subst}
 use mathlib.Core.Bool.{Bool, true, _&&_}
-use mathlib.Core.List.{List, [], _∷_, List·Memᴰ·head, List·Memᴰ·tail}
+use mathlib.Core.List.{List, [], _∷_, List·Memᴰ·head}
 use Prim.Native.Nat.{ℕ, _*_, _≤_}
 use borrow.Author.Tests.{le-leb, eq-eqb}
 use lib.Dec.{T, leb, eqb}
@@ -25,7 +25,7 @@ use Rattle.disks.proofs.Welzl.{smallest}
 use Rattle.disks.proofs.Answer.{limits}
 use Rattle.disks.proofs.First.{first-support}
 use Rattle.record.specs.Valid.{scaleInLimit, centreInEmBox, squareInLimit, isLowest, validDisk, oneToThree, rising, validPoints, valid}
-use Rattle.engine.proofs.Found.{box-members}
+use Rattle.engine.proofs.Found.{box-members, members-box}
 
 -- ---- rows of tests
 
@@ -61,16 +61,11 @@ rising-points [] r = refl
 rising-points (p ∷ []) r = refl
 rising-points (p ∷ q ∷ S) r = both (is-true (before p q) (r .0 q (List·Memᴰ·head refl))) (rising-points (q ∷ S) (r .1))
 
-all-in-box : (S : List Point) → ((p : Point) → In p S → T (inEmBox p)) → allInEmBox S ≡ true
-unfolding allInEmBox
-all-in-box [] h = refl
-all-in-box (p ∷ S) h = both (is-true (inEmBox p) (h p (List·Memᴰ·head refl))) (all-in-box S (λ q i. h q (List·Memᴰ·tail i)))
-
 valid-points : {P : List Point} (S : List Point) → IsSupport P S → ((p : Point) → In p P → T (inEmBox p)) → validPoints S ≡ true
 unfolding validPoints
 valid-points S s h =
     both (both (le-leb 1 (length S) (s .some)) (le-leb (length S) 3 (s .most)))
-    (both (rising-points S (s .rises)) (all-in-box S (λ p i. h p (s .members p i))))
+    (both (rising-points S (s .rises)) (members-box S (λ p i. h p (s .members p i))))
 
 pub valid-answer : (P : List Point) → (P ≡ [] → ⊥) → allInEmBox P ≡ true → valid (diskOf P) (firstSupport P) ≡ true
 unfolding valid

@@ -142,6 +142,7 @@ module _ {bs cs : List ℕ} (s : Spaced bs cs) where
 
       pub line-point : ends isFeed es ≡ true → (lineOf (firstLine bs) ≡ point (record { x = x; y = y })) × (drop 1 es ≡ afterLine bs)
       unfolding lineOfWords lineWords
-      line-point h =
-          (ap lineOfWords (three-words ∙ ap (λ (ws : List (List ℕ)). word cs ∷ word ds ∷ ws) (words-none es h)) ∙ rw (n .value, m .value),
-          line-over bs es (feed-spaced s ∙ feed-numbered n ∙ feed-numbered m) h)
+      line-point h = (
+        ap lineOfWords (three-words ∙ ap (λ (ws : List (List ℕ)). word cs ∷ word ds ∷ ws) (words-none es h)) ∙ rw (n .value, m .value),
+        line-over bs es (feed-spaced s ∙ feed-numbered n ∙ feed-numbered m) h,
+      )

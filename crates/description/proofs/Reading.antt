@@ -100,10 +100,13 @@ module _ (text : List ℕ) (at : ℕ) where
 
     pub reading-end : (i ≡ at → ⊥) → ends endsWord (drop i text) ≡ true → (digits (word (drop at text)) ≡ some v) × (Reaches text i (afterWord (drop at text)) × (v < 10000))
     reading-end n e =
-        let some-read : 1 ≤ i - at = omega (arith, r .behind, n) in
-        (sym (r .value) ∙ stopped (i - at) v (drop i text) e ∙ more-end (i - at) v some-read (r .few),
-        (record { inside = r .within; before = sym (from-here endsWord (drop i text) e) ∙ r .ahead },
-        fewer-digits 4 (i - at) v (r .bound) (r .few)))
+        let some-read : 1 ≤ i - at = omega (arith, r .behind, n) in (
+          sym (r .value) ∙ stopped (i - at) v (drop i text) e ∙ more-end (i - at) v some-read (r .few),
+          (
+            record { inside = r .within; before = sym (from-here endsWord (drop i text) e) ∙ r .ahead },
+            fewer-digits 4 (i - at) v (r .bound) (r .few),
+          ),
+        )
 
 -- ---- the minus
 

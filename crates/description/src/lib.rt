@@ -44,7 +44,9 @@ enum Step {
 }
 
 const POINTS: usize = 4096;
+
 const NUMBERS: usize = 8192;
+
 const BYTES: usize = 65535;
 
 // Whether the byte b stands at the place.

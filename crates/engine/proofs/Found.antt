@@ -3,15 +3,15 @@
 --   points-left    : the points of the list left
 --   order-same     : they are the points that came
 --   disk-left, support-left : so it has the same disk and the same first support set
---   box-members    : each point of a list that is in the em box is
---   some-point     : a list that is not empty and of even length has a point
+--   box-members, members-box : a list is in the em box exactly where each of its points is
+--   box-left       : the list left is in the em box where the list that came is
 use mathlib.Core.Path.{_≡_, refl, sym, ap, _∙_, subst}
 use mathlib.Core.Logic.{_⊎_, inl, inr}
-use mathlib.Core.Bool.{true}
-use mathlib.Core.List.{List, [], _∷_, append-nil, List·Memᴰ·cases-cons, List·Memᴰ·not-nil}
+use mathlib.Core.Bool.{Bool, true}
+use mathlib.Core.List.{List, [], _∷_, append-nil, List·Memᴰ·head, List·Memᴰ·tail, List·Memᴰ·cases-cons, List·Memᴰ·not-nil}
 use lib.Dec.{T}
 use lib.IntN.{ℤ}
-use Rattle.integers.specs.Between.{first, rest}
+use Rattle.integers.specs.Between.{first, rest, pass}
 use Rattle.geometry.specs.declared.Point.{Point}
 use Rattle.geometry.specs.Plane.{inEmBox, allInEmBox}
 use Rattle.geometry.specs.Points.{points, flat}
@@ -54,3 +54,15 @@ box-members (q ∷ P) h p i = go (λ (k : In p P). box-members P (rest (inEmBox 
     go : (In p P → T (inEmBox p)) → (p ≡ q) ⊎ In p P → T (inEmBox p)
     go f (inl e) = subst (λ (r : Point). T (inEmBox r)) (sym e) here
     go f (inr k) = f k
+
+pub members-box : (P : List Point) → ((p : Point) → In p P → T (inEmBox p)) → allInEmBox P ≡ true
+unfolding allInEmBox
+members-box [] h = refl
+members-box (p ∷ P) h = sym (pass (is-true (inEmBox p) (h p (List·Memᴰ·head refl))) (sym (members-box P (λ q i. h q (List·Memᴰ·tail i)))))
+  where
+    is-true : (b : Bool) → T b → b ≡ true
+    is-true true t = refl
+
+-- the list left is in the box where the list that came is
+pub box-left : (P : List Point) {m : List ℤ} → m ≡ flat (orderOf P) → allInEmBox P ≡ true → allInEmBox (points m) ≡ true
+box-left P {m} left box = members-box (points m) (λ p i. box-members P box p (same-left P left .to p i))

@@ -50,12 +50,13 @@ loop-again c =
     let l = c .before .before in
     let a = l .before .args in
     let i = l .loop .i in
-    let x = getD (a .source .now) i (pos 0) in
-    (omega arith,
-    ap₂ (λ (m : List ℤ) (z : ℤ). set m i z) (l .loop .inv .1) (toZ-ofZ (record { sfits = c .list .given }))
-    ∙ ap (λ (k : ℕ). set (paste (a .list .now) 0 (a .source .now) i) k x) (sym (zero-add i))
-    ∙ paste-suc (a .list .now) 0 (a .source .now) i (pos 0) (omega (arith, l .before .pre .1)) (omega (arith, l .before .pre .0))
-    ∙ ap (paste (a .list .now) 0 (a .source .now)) (sym (add-one i)))
+    let x = getD (a .source .now) i (pos 0) in (
+      omega arith,
+      ap₂ (λ (m : List ℤ) (z : ℤ). set m i z) (l .loop .inv .1) (toZ-ofZ (record { sfits = c .list .given }))
+          ∙ ap (λ (k : ℕ). set (paste (a .list .now) 0 (a .source .now) i) k x) (sym (zero-add i))
+          ∙ paste-suc (a .list .now) 0 (a .source .now) i (pos 0) (omega (arith, l .before .pre .1)) (omega (arith, l .before .pre .0))
+          ∙ ap (paste (a .list .now) 0 (a .source .now)) (sym (add-one i)),
+    )
 
 same-length : tie.Need-same-length Inv-loop μ-loop
 same-length c = long (c .before)

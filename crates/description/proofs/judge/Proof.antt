@@ -120,9 +120,10 @@ same-length-3 c = c .before .before .loop .inv .room
 
 returns-3 : tie.Need-returns-3 Inv-loop μ-loop
 returns-3 c =
-    let l = c .before .before in
-    (sym (ap (λ (b : Bool). refuseIf b 5 (given (l .loop .n))) (ne-eqb (l .loop .n) 0 (c .if1 .left))) ∙ sym (over (c .before)),
-    (judging-kept (l .before .before .args .text .now) (l .before .before .args .found .now) (l .loop .found) (l .loop .at) (l .loop .n) (l .loop .inv) (c .before .loop-test .left), l .loop .inv .few))
+    let l = c .before .before in (
+      sym (ap (λ (b : Bool). refuseIf b 5 (given (l .loop .n))) (ne-eqb (l .loop .n) 0 (c .if1 .left))) ∙ sym (over (c .before)),
+      (judging-kept (l .before .before .args .text .now) (l .before .before .args .found .now) (l .loop .found) (l .loop .at) (l .loop .n) (l .loop .inv) (c .before .loop-test .left), l .loop .inv .few),
+    )
 
 pub judge-spec : {M : Type 1} → statement M
 judge-spec =

@@ -12,7 +12,7 @@ use Rattle.disks.specs.Support.{firstSupport}
 use Rattle.geometry.specs.Points.{points}
 use borrow.Author.Tests.{not-true, not-false}
 use Rattle.engine.proofs.Checks.{refused-odd, refused-empty, refused-long, refused-outside, accepted, list-refused, list-accepted, even-length, some-length}
-use Rattle.engine.proofs.Found.{box-members, same-left, disk-left, support-left}
+use Rattle.engine.proofs.Found.{box-left, disk-left, support-left}
 use Rattle.engine.proofs.smallest_disk.Statement.{statement}
 use Rattle.engine.proofs.smallest_disk.Tie as tie
 use Rattle.engine.proofs.smallest_disk.Reads as reads
@@ -69,7 +69,7 @@ first-support-requires c κs =
     record {
       some = omega (arith, a .smallest .kept .0, some-length l (checked (b .before) .before .if2 .left), even-length l (checked (b .before) .before .before .if1 .left));
       most = omega (arith, a .smallest .kept .0, checked (b .before) .if3 .left, even-length l (checked (b .before) .before .before .if1 .left));
-      boxed = λ p i. box-members (points l) (in-box b) p (same-left (points l) left .to p i);
+      boxed = box-left (points l) left (in-box b);
       smallest = a .smallest .ensures .0 ∙ sym (disk-left (points l) left);
     }
 
@@ -84,9 +84,10 @@ returns-5 c =
     let l = entry (b .before) in
     let left = a .smallest .ensures .1 .1 in
     let e = accepted l (d .before .before .if1 .left) (d .before .if2 .left) (d .if3 .left) (in-box b) in
-    let t : members (c .first-support .result) ≡ firstSupport (points l) = c .first-support .ensures ∙ support-left (points l) left in
-    ((λ i. given (record { disk = a .smallest .ensures .0 i; support = t i; tests = a .smallest .ensures .1 .0 i })) ∙ sym e,
-    left ∙ sym (list-accepted l e))
+    let t : members (c .first-support .result) ≡ firstSupport (points l) = c .first-support .ensures ∙ support-left (points l) left in (
+      (λ i. given (record { disk = a .smallest .ensures .0 i; support = t i; tests = a .smallest .ensures .1 .0 i })) ∙ sym e,
+      left ∙ sym (list-accepted l e),
+    )
 
 pub smallest-disk-spec : {M : Type 1} → statement M
 smallest-disk-spec =
