@@ -3,7 +3,7 @@
 ghost use mathlib.Core.Path.{_≡_};
 ghost use Rattle.answers.specs.Outcome.{numberOf};
 ghost use Rattle.geometry.specs.Plane.{members};
-ghost use Rattle.exports.specs.Support.{supportOf, pointsOf, setPoints};
+ghost use Rattle.exports.specs.Support.{noDisk, noSupport, supportOf, pointsOf, setPoints};
 use answers::Refusal;
 use geometry::Disk;
 use geometry::Point;
@@ -19,10 +19,24 @@ pub struct Support {
 }
 
 #[repr(C)]
+pub struct LoadAnswer {
+    pub refusal: u64,
+    pub count: u64,
+}
+
+#[repr(C)]
 pub struct GlyphAnswer {
     pub refusal: u64,
     pub start: u64,
     pub len: u64,
+}
+
+#[repr(C)]
+pub struct DiskAnswer {
+    pub refusal: u64,
+    pub disk: Disk,
+    pub support: Support,
+    pub tests: u64,
 }
 
 #[repr(C)]
@@ -59,6 +73,20 @@ pub fn support_of(t: SupportSet) -> Support
         SupportSet::Two(a, b) => Support { size: 2, a: a, b: b, c: b },
         SupportSet::Three(a, b, c) => Support { size: 3, a: a, b: b, c: c },
     }
+}
+
+// What stands beside a refusal in place of a disk and a support set.
+pub fn no_disk() -> Disk
+    ensures { λ d. ⌜ d ≡ noDisk ⌝ }
+{
+    Disk { x: 0, y: 0, e: 0, s: 0 }
+}
+
+pub fn no_support() -> Support
+    ensures { λ t. ⌜ t ≡ noSupport ⌝ }
+{
+    let p = Point { x: 0, y: 0 };
+    Support { size: 0, a: p, b: p, c: p }
 }
 
 pub fn given_set(t: Support) -> Given

@@ -8,12 +8,11 @@ ghost use Rattle.exports.specs.Support.{pointsOf};
 ghost use Rattle.exports.specs.Answers.{codeOf, recordAnswer};
 use answers::Refusal;
 use geometry::Disk;
-use geometry::Point;
 use geometry::SupportSet;
 use crate::RecordAnswer;
 use crate::Support;
 
-fn write_code(d: Disk, t: SupportSet, buf: &mut [u8]) -> u64
+pub fn write_code(d: Disk, t: SupportSet, buf: &mut [u8]) -> u64
     ensures { λ r. ⌜ r ≡ codeOf (writeOf d (members t) (now (buf .entry))) ⌝ }
     ensures { λ _. ⌜ now (buf .exit) ≡ bufferAfter d (members t) (now (buf .entry)) ⌝ }
 {
@@ -44,10 +43,7 @@ pub extern "C" fn volkhidar_write_record(d: Disk, t: Support, buf: &mut [u8]) ->
 fn no_record(r: Refusal) -> RecordAnswer
     ensures { λ a. ⌜ a ≡ recordAnswer (refused (numberOf r)) ⌝ }
 {
-    let p = Point { x: 0, y: 0 };
-    let none = Support { size: 0, a: p, b: p, c: p };
-    let d = Disk { x: 0, y: 0, e: 0, s: 0 };
-    RecordAnswer { refusal: crate::answer::code(r), disk: d, support: none }
+    RecordAnswer { refusal: crate::answer::code(r), disk: crate::answer::no_disk(), support: crate::answer::no_support() }
 }
 
 #[no_mangle]
