@@ -7,17 +7,17 @@
 --   numeral-minus, numeral-plain : a number by its first byte
 --   grown, fewer-digits : k digits have a value below 10 ^ k
 use Prim.Native.Nat.{ℕ, suc, _+_, _-_, _*_, _^_, _≤_, _<_}
-use mathlib.Core.Path.{_≡_, refl, sym, _∙_, ap}
+use mathlib.Core.Path.{_≡_, refl, sym}
 use mathlib.Core.Bool.{Bool, true, false, _&&_, true≢false}
 use mathlib.Core.List.{List, [], _∷_}
 use mathlib.Core.Option.{Option, none, some, Option·map}
 use native.Mathlib.Nat.{zero-add, add-zero, add-suc, suc-add, pow-suc, pow-le-pow-right, lt-of-lt-of-le}
 use native.Mathlib.Numerals.{add-one}
 use native.Mathlib.Omega.{arith}
-use lib.Dec.{leb, eqb}
-use lib.IntN.{ℤ, pos, negℤ}
+use lib.Dec.{leb}
+use lib.IntN.{pos, negℤ}
 use lib.ListN.{length, drop}
-use borrow.Author.Tests.{le-leb, lt-leb, eqb-true, leb-true}
+use borrow.Author.Tests.{le-leb, lt-leb, eqb-true}
 use Rattle.integers.specs.Between.{stop}
 use Rattle.description.specs.Description.{isDigit, allDigits, decimal, someIf, digits, numeral}
 use Rattle.description.specs.Scan.{isByte, endsWord, upTo, starts, word}
@@ -31,7 +31,7 @@ more-start ds = rw (zero-add (length ds))
 
 pub more-digit : (k v b : ℕ) (ds : List ℕ) → isDigit b ≡ true → more k v (b ∷ ds) ≡ more (k + 1) (10 * v + (b - 48)) ds
 unfolding more allDigits decimal
-more-digit k v b ds h = rw (h, add-suc, add-one, suc-add)
+more-digit k v b ds h = rw (h, add-suc k (length ds), add-one, suc-add)
 
 pub more-end : (k v : ℕ) → 1 ≤ k → k ≤ 4 → more k v [] ≡ some v
 unfolding more allDigits decimal

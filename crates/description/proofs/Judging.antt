@@ -9,21 +9,21 @@
 --   judging-over, judging-kept : at the end of the text
 use Prim.Native.Nat.{ℕ, suc, _+_, _-_, _*_, _≤_, _<_}
 use mathlib.Core.Path.{_≡_, refl, sym, _∙_, ap, ap₂}
-use mathlib.Core.Bool.{Bool, true, false, not}
+use mathlib.Core.Bool.{Bool, true, false}
 use mathlib.Core.List.{List, [], _∷_, _++_, append-assoc, append-nil}
 use native.Mathlib.Numerals.{add-one}
 use native.Mathlib.Omega.{arith}
-use lib.Dec.{leb, eqb}
+use lib.Dec.{eqb}
 use lib.IntN.{ℤ}
 use lib.ListN.{length, getD, take, drop, set, length-drop, length-set, drop-of-length-le}
-use lib.Seq.{take-suc-set, take-set-le}
+use lib.Seq.{take-suc-set}
 use borrow.Author.Tests.{le-leb, lt-leb}
-use Rattle.answers.specs.Outcome.{Outcome, given, refused, refuseIf}
+use Rattle.answers.specs.Outcome.{given, refused, refuseIf}
 use Rattle.geometry.specs.declared.Point.{Point}
 use Rattle.geometry.specs.Plane.{inEmBox}
 use Rattle.geometry.specs.Points.{flat}
 use Rattle.description.specs.declared.Step.the-variants as Step
-use Rattle.description.specs.Description.{pieces, Line, blank, point, fault, lineOf, linesOf, linesRead, pointsOn, named, byLine}
+use Rattle.description.specs.Description.{pieces, Line, blank, point, fault, lineOf, linesRead, pointsOn, named, byLine}
 use Rattle.description.specs.Scan.{isFeed, from, firstLine, afterLine, Reaches, StepAt}
 use Rattle.description.proofs.Places.{drop-at}
 use Rattle.description.proofs.Words.{lines-first}

@@ -5,3 +5,4 @@ pub mod Reading
 pub mod Lines
 pub mod Judging
 pub mod Loading
+pub mod Accepted

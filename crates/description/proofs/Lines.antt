@@ -6,16 +6,15 @@
 --   fault-third, line-point     : a third word, or nothing, behind two numbers
 use Prim.Native.Nat.{ℕ}
 use mathlib.Core.Path.{_≡_, refl, sym, _∙_, ap, subst}
-use mathlib.Core.Bool.{Bool, true, false, not, _||_, true≢false}
+use mathlib.Core.Bool.{Bool, true, false, _||_, true≢false}
 use mathlib.Core.List.{List, [], _∷_}
-use mathlib.Core.Option.{Option, none, some}
+use mathlib.Core.Option.{none, some}
 use native.Mathlib.Omega.{arith}
-use lib.Dec.{eqb}
 use lib.IntN.{ℤ}
 use lib.ListN.{drop}
 use borrow.Author.Tests.{eqb-true, not-false}
 use Rattle.description.specs.Description.{wordsOf, numeral, blank, point, fault, lineOfWords, lineOf}
-use Rattle.description.specs.Scan.{isFeed, isSpace, noSpace, endsWord, upTo, from, ends, firstLine, afterLine, word, afterWord, afterSpaces}
+use Rattle.description.specs.Scan.{isFeed, isSpace, noSpace, endsWord, from, ends, firstLine, afterLine, word, afterWord, afterSpaces}
 use Rattle.description.proofs.Places.{from-here, up-to-on}
 use Rattle.description.proofs.Words.{words-spaces, words-none, words-first, feed-later}
 

@@ -3,20 +3,18 @@
 --   load-no-room, load-long, load-judged : the checks 8 and 1, and where neither is due
 --   after-refused, after-given           : the list as it was, or with the points at its front
 --   front-pasted                         : points copied over the front
-use Prim.Native.Nat.{ℕ, _*_, _≤_, _<_}
-use mathlib.Core.Path.{_≡_, refl, sym, _∙_, ap, ap₂}
-use mathlib.Core.Bool.{Bool}
+use Prim.Native.Nat.{ℕ, _≤_, _<_}
+use mathlib.Core.Path.{_≡_, sym, _∙_, ap, ap₂}
 use mathlib.Core.List.{List, _++_}
 use native.Mathlib.Nat.{zero-add}
-use lib.Dec.{ltb}
 use lib.IntN.{ℤ}
 use lib.ListN.{length, take, drop}
 use lib.Seq.{paste, length-take-le}
 use borrow.Author.Tests.{lt-ltb, le-ltb}
-use Rattle.answers.specs.Outcome.{Outcome, given, refused, refuseIf}
+use Rattle.answers.specs.Outcome.{given, refused}
 use Rattle.geometry.specs.declared.Point.{Point}
 use Rattle.geometry.specs.Points.{flat}
-use Rattle.description.specs.Description.{linesRead, named, byLine, loadOf, frontPut, listAfter}
+use Rattle.description.specs.Description.{linesRead, named, byLine, loadOf, listAfter}
 
 module _ (text : List ℕ) (list : List ℤ) where
   pub load-no-room : length list < 8192 → loadOf text list ≡ refused 8

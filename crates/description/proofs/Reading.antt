@@ -7,12 +7,12 @@
 --   minus-value, minus-ahead : a minus at the place, and the digits behind it
 --   signed-value, signed-none : a number from its digits and its sign
 use Prim.Native.Nat.{ℕ, _+_, _-_, _*_, _^_, _≤_, _<_}
-use mathlib.Core.Path.{_≡_, refl, sym, _∙_, ap, ap₂}
-use mathlib.Core.Bool.{Bool, true, false, _||_, true≢false}
+use mathlib.Core.Path.{_≡_, refl, sym, _∙_, ap}
+use mathlib.Core.Bool.{Bool, true, false, true≢false}
 use mathlib.Core.List.{List, [], _∷_}
 use mathlib.Core.Option.{none, some, Option·map}
 use native.Mathlib.Omega.{arith}
-use lib.Dec.{leb, eqb}
+use lib.Dec.{leb}
 use lib.IntN.{ℤ, pos, negℤ}
 use lib.ListN.{length, getD, drop}
 use borrow.Author.Tests.{leb-true, ne-eqb, eqb-true}
@@ -20,7 +20,7 @@ use Rattle.integers.specs.Between.{first, rest}
 use Rattle.description.specs.declared.Natural.the-variants as Natural
 use Rattle.description.specs.declared.Number.the-variants as Number
 use Rattle.description.specs.Description.{isDigit, digits, numeral}
-use Rattle.description.specs.Scan.{isByte, isSpace, isFeed, endsWord, upTo, starts, ends, word, afterWord, Reaches, NaturalAt, NumberAt}
+use Rattle.description.specs.Scan.{isByte, endsWord, starts, ends, word, afterWord, Reaches, NaturalAt, NumberAt}
 use Rattle.description.proofs.Places.{drop-at, up-to-here, from-here, up-to-on, up-to-next, from-next, inside, byte-passes}
 use Rattle.description.proofs.Digits.{more, more-start, more-digit, more-end, more-empty, more-long, more-other, grown, fewer-digits, numeral-minus}
 

@@ -8,13 +8,12 @@
 --   feed-later     : the line feed is that of the bytes behind spaces, and behind a word
 use Prim.Native.Nat.{ℕ}
 use mathlib.Core.Path.{_≡_, refl, sym, _∙_, ap}
-use mathlib.Core.Bool.{Bool, true, false, not, _||_, true≢false}
+use mathlib.Core.Bool.{Bool, true, false}
 use mathlib.Core.List.{List, [], _∷_}
-use lib.Dec.{eqb}
-use lib.ListN.{getD, drop}
+use lib.ListN.{drop}
 use borrow.Author.Tests.{eqb-true}
 use Rattle.description.specs.Description.{joinPiece, pieces, nonEmpty, linesOf, wordsOf}
-use Rattle.description.specs.Scan.{isByte, isFeed, isSpace, noSpace, endsWord, upTo, from, ends, firstLine, afterLine, word, afterWord, afterSpaces}
+use Rattle.description.specs.Scan.{isByte, isFeed, isSpace, upTo, from, ends, firstLine, afterLine, word, afterWord, afterSpaces}
 use Rattle.description.proofs.Places.{up-to-here}
 
 -- the claim of `pieces-first`, of all bytes that are some

@@ -1,11 +1,10 @@
-use lib.Dec.{leb}
+-- `description::digit` meets its contract: a digit is at least 48.
 use borrow.Author.Tests.{leb-true}
-use Rattle.integers.specs.Between.{first}
 use borrow.Author.Needs.{needs}
+use lib.Dec.{leb}
+use Rattle.integers.specs.Between.{first}
 use Rattle.description.proofs.digit.Statement.{statement}
 use Rattle.description.proofs.digit.Tie as tie
-use Rattle.description.proofs.digit.Reads as reads
-use Rattle.description.proofs.digit.Lts as lts
 
 sub-result : tie.Need-sub-result
 sub-result c = leb-true 48 (c .args .b) (first (leb 48 (c .args .b)) (leb (c .args .b) 57) (c .pre))

@@ -1,11 +1,10 @@
+-- `description::is_digit` meets its contract: each test is one of `isDigit`'s row.
 use mathlib.Core.Path.{refl}
-use lib.Dec.{leb}
 use borrow.Author.Tests.{le-leb, lt-leb}
+use lib.Dec.{leb}
 use Rattle.integers.specs.Between.{stop, pass}
 use Rattle.description.proofs.is_digit.Statement.{statement}
 use Rattle.description.proofs.is_digit.Tie as tie
-use Rattle.description.proofs.is_digit.Reads as reads
-use Rattle.description.proofs.is_digit.Lts as lts
 
 returns : tie.Need-returns
 returns c = stop (leb (c .before .args .b) 57) (lt-leb 48 (c .before .args .b) (c .if1 .taken))

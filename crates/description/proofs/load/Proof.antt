@@ -1,13 +1,12 @@
 -- `description::load` meets its contract: the checks 8 and 1, then the verdict on the lines; the points are copied where nothing is refused.
 use Prim.Native.Nat.{_*_, _≤_}
-use mathlib.Core.Path.{_≡_, refl, sym, _∙_, ap, subst}
+use mathlib.Core.Path.{_≡_, sym, _∙_, ap, subst}
 use native.Mathlib.Omega.{arith}
 use borrow.Author.Needs.{needs}
 use lib.ListN.{length, take}
 use Rattle.answers.specs.Outcome.{given, refused, numberOf}
 use Rattle.geometry.specs.Points.{flat}
 use Rattle.description.specs.declared.Loaded.{Loaded}
-use Rattle.description.specs.declared.Loaded.the-variants.{Points, Refused}
 use Rattle.description.specs.Description.{named, loadOf, outcome}
 use Rattle.description.specs.Scan.{Kept}
 use Rattle.description.proofs.Loading.{load-no-room, load-long, load-judged, after-refused, after-given, front-pasted}

@@ -1,11 +1,10 @@
-use mir.Syntax.{w16}
+-- `description::plus` meets its contract: a value of four digits fits.
 use native.Mathlib.Omega.{arith}
-use Rattle.integers.specs.Bounds.{nat-back}
 use borrow.Author.Needs.{needs}
+use mir.Syntax.{w16}
+use Rattle.integers.specs.Bounds.{nat-back}
 use Rattle.description.proofs.plus.Statement.{statement}
 use Rattle.description.proofs.plus.Tie as tie
-use Rattle.description.proofs.plus.Reads as reads
-use Rattle.description.proofs.plus.Lts as lts
 
 cast-result : tie.Need-cast-result
 cast-result c = search needs

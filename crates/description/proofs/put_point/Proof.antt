@@ -1,10 +1,9 @@
-use lib.ListN.{length-set}
+-- `description::put_point` meets its contract: two stores.
 use native.Mathlib.Omega.{arith}
 use borrow.Author.Needs.{needs}
+use lib.ListN.{length-set}
 use Rattle.description.proofs.put_point.Statement.{statement}
 use Rattle.description.proofs.put_point.Tie as tie
-use Rattle.description.proofs.put_point.Reads as reads
-use Rattle.description.proofs.put_point.Lts as lts
 
 mul-x : tie.Need-mul-x
 mul-x c = search needs

@@ -1,11 +1,8 @@
 -- `description::read_line` meets its contract: each call finds the next part of the line, and the laws of `Lines` put them together.
-use Prim.Native.Nat.{_≤_}
-use mathlib.Core.Path.{_≡_, sym, _∙_, ap, ap₂, subst}
-use mathlib.Core.List.{List}
+use mathlib.Core.Path.{sym, _∙_, ap, ap₂, subst}
 use borrow.Author.Needs.{needs}
 use lib.IntN.{ℤ}
-use lib.ListN.{length, drop}
-use Rattle.geometry.specs.declared.Point.{Point}
+use lib.ListN.{drop}
 use Rattle.description.specs.declared.Number.the-variants.{Value}
 use Rattle.description.specs.Description.{point}
 use Rattle.description.specs.Scan.{afterSpaces, NumberAt}

@@ -73,7 +73,9 @@ enum-known-v-2 c = search needs
 -- ---- without one
 
 no-minus : (c : tie.Else1) → let a = c .before .before .before .args in numeral (word (drop (a .at) (a .text .now))) ≡ Option·map pos (digits (word (drop (a .at) (a .text .now))))
-no-minus c = let a = c .before .before .before .args in numeral-plain (drop (a .at) (a .text .now)) (sym (c .before .is-at .ensures) ∙ c .if1 .left)
+no-minus c =
+    let a = c .before .before .before .args in
+    numeral-plain (drop (a .at) (a .text .now)) (sym (c .before .is-at .ensures) ∙ c .if1 .left)
 
 digits-there : (c : tie.After-v2) → let a = c .before .before .before .before .before .before .args in NaturalAt (a .text .now) (drop (a .at) (a .text .now)) (Value (c .v2 .given .0 .0) (c .v2 .given .0 .1 .0))
 digits-there c =

@@ -1,0 +1,133 @@
+-- Accepted descriptions: those that the loader, lent at least 8,192 numbers, does not refuse (01, "Description, sheet, record").
+--
+--   load-same                 : the answer does not depend on the list lent, where it has 8,192 numbers or more
+--   accepted-room, accepted-short : the list has them, and the description at most 65,535 bytes
+--   accepted-count            : the answer is the number of points named
+--   accepted-some, accepted-few : they are 1 to 4,096
+--   accepted-in-box           : each of them is in the em box
+--   accepted-front, accepted-rest : they stand at the front of the list, and the rest of it is as it was
+--   accepted-points           : read back from the front of the list they are those named
+--   points-flat, length-flat  : points from numbers that were points
+use Prim.Native.Nat.{ℕ, suc, _+_, _*_, _≤_, _<_}
+use mathlib.Core.Path.{_≡_, refl, sym, _∙_, ap}
+use mathlib.Core.Logic.{_⊎_, inl, inr}
+use mathlib.Core.Bool.{Bool, true, false, not}
+use mathlib.Core.List.{List, [], _∷_, List·Memᴰ, List·Memᴰ·cases-cons, List·Memᴰ·not-nil}
+use native.Mathlib.Omega.{arith}
+use borrow.Author.Tests.{le-ltb, ltb-false, leb-false, eqb-false, not-false}
+use lib.Dec.{ltb, leb, eqb}
+use lib.IntN.{ℤ}
+use lib.ListN.{length, take, drop}
+use lib.Seq.{take-at, drop-at}
+use Rattle.answers.specs.Outcome.{Outcome, given, refused, refuseIf}
+use Rattle.geometry.specs.declared.Point.{Point}
+use Rattle.geometry.specs.Plane.{inEmBox}
+use Rattle.geometry.specs.Points.{points, flat, firstPoints}
+use Rattle.description.specs.Description.{Line, blank, point, fault, linesRead, pointsOn, named, byLine, loadOf, listAfter}
+use Rattle.description.proofs.Loading.{load-judged, after-given}
+
+-- ---- points as numbers
+
+pub points-flat : (ps : List Point) → points (flat ps) ≡ ps
+unfolding points flat
+points-flat [] = refl
+points-flat (p ∷ ps) = ap (λ (qs : List Point). p ∷ qs) (points-flat ps)
+
+pub length-flat : (ps : List Point) → length (flat ps) ≡ 2 * length ps
+unfolding flat
+length-flat [] = refl
+length-flat (p ∷ ps) = omega (arith, length-flat ps)
+
+-- ---- a check that was passed
+
+not-given : {A : Type 0} {k : ℕ} {m : A} → refused k ≡ given m → ⊥
+not-given h = let clash : _≡_ {A = ℕ} 0 1 = cc in omega arith
+
+given-same : {A : Type 0} {a b : A} → given a ≡ given b → a ≡ b
+given-same h = cc
+
+passed : {A : Type 0} (b : Bool) (k : ℕ) (rest : Outcome A) {m : A} → refuseIf b k rest ≡ given m → (b ≡ false) × (rest ≡ given m)
+passed true k rest h = absurd (not-given h)
+passed false k rest h = (refl, h)
+
+-- ---- the lines
+
+pub record Passed (n m : ℕ) (ls : List Line) : Type 0 where
+  pub count : m ≡ n + length (pointsOn ls)
+  pub some-point : 1 ≤ m
+  pub few : m ≤ 4096
+  pub in-box : (p : Point) → List·Memᴰ p (pointsOn ls) → inEmBox p ≡ true
+
+module _ (n m : ℕ) (p : Point) (ls : List Line) (k : inEmBox p ≡ true) (r : Passed (suc n) m ls) where
+  in-box-first : (q : Point) → (q ≡ p) ⊎ List·Memᴰ q (pointsOn ls) → inEmBox q ≡ true
+  in-box-first q (inl e) = ap inEmBox e ∙ k
+  in-box-first q (inr h) = r .in-box q h
+
+  passed-point : Passed n m (point p ∷ ls)
+  unfolding pointsOn
+  passed-point = record { count = omega (arith, r .count); some-point = r .some-point; few = r .few; in-box = λ q h. in-box-first q (List·Memᴰ·cases-cons h) }
+
+passed-lines : (ls : List Line) (n m : ℕ) → n ≤ 4096 → byLine n ls ≡ given m → Passed n m ls
+unfolding byLine pointsOn
+passed-lines [] n m l h =
+    let end = passed (eqb n 0) 5 (given n) h in
+    let same : n ≡ m = given-same (end .1) in
+    record { count = omega arith; some-point = omega (arith, eqb-false n 0 (end .0)); few = omega arith; in-box = λ p k. absurd (List·Memᴰ·not-nil k) }
+passed-lines (blank ∷ ls) n m l h =
+    let r = passed-lines ls n m l h in
+    record { count = r .count; some-point = r .some-point; few = r .few; in-box = r .in-box }
+passed-lines (fault ∷ ls) n m l h = absurd (not-given h)
+passed-lines (point p ∷ ls) n m l h =
+    let box = passed (not (inEmBox p)) 3 (refuseIf (leb 4096 n) 4 (byLine (suc n) ls)) h in
+    let room = passed (leb 4096 n) 4 (byLine (suc n) ls) (box .1) in
+    let below : n < 4096 = leb-false 4096 n (room .0) in
+    passed-point n m p ls (not-false (inEmBox p) (box .0)) (passed-lines ls (suc n) m (omega arith) (room .1))
+
+-- ---- the description
+
+pub load-same : (text : List ℕ) (list other : List ℤ) → 8192 ≤ length list → 8192 ≤ length other → loadOf text list ≡ loadOf text other
+unfolding loadOf
+load-same text list other h k = rw (le-ltb (length list) 8192 h, le-ltb (length other) 8192 k)
+
+module _ (text : List ℕ) (list : List ℤ) (n : ℕ) (accepted : loadOf text list ≡ given n) where
+  -- what is left behind the check of the list
+  abbrev by-text : Outcome ℕ
+  by-text = refuseIf (ltb 65535 (length text)) 1 (byLine 0 (linesRead text))
+
+  pub accepted-room : 8192 ≤ length list
+  unfolding loadOf
+  accepted-room = ltb-false (length list) 8192 (passed (ltb (length list) 8192) 8 by-text accepted .0)
+
+  pub accepted-short : length text ≤ 65535
+  unfolding loadOf
+  accepted-short = ltb-false 65535 (length text) (passed (ltb 65535 (length text)) 1 (byLine 0 (linesRead text)) (passed (ltb (length list) 8192) 8 by-text accepted .1) .0)
+
+  all-passed : Passed 0 n (linesRead text)
+  all-passed = passed-lines (linesRead text) 0 n (omega arith) (sym (load-judged text list accepted-room accepted-short) ∙ accepted)
+
+  pub accepted-count : n ≡ length (named text)
+  accepted-count = omega (arith, all-passed .count)
+
+  pub accepted-some : 1 ≤ n
+  accepted-some = all-passed .some-point
+
+  pub accepted-few : n ≤ 4096
+  accepted-few = all-passed .few
+
+  pub accepted-in-box : (p : Point) → List·Memᴰ p (named text) → inEmBox p ≡ true
+  accepted-in-box = all-passed .in-box
+
+  front-length : length (flat (named text)) ≡ 2 * n
+  front-length = length-flat (named text) ∙ ap (λ (k : ℕ). 2 * k) (sym accepted-count)
+
+  pub accepted-front : take (2 * n) (listAfter text list) ≡ flat (named text)
+  accepted-front = ap (take (2 * n)) (after-given text list n accepted) ∙ take-at (flat (named text)) (drop (length (flat (named text))) list) (2 * n) front-length
+
+  pub accepted-rest : drop (2 * n) (listAfter text list) ≡ drop (2 * n) list
+  accepted-rest =
+      ap (drop (2 * n)) (after-given text list n accepted)
+      ∙ drop-at (flat (named text)) (drop (length (flat (named text))) list) (2 * n) front-length
+      ∙ ap (λ (k : ℕ). drop k list) front-length
+
+  pub accepted-points : firstPoints n (listAfter text list) ≡ named text
+  accepted-points = ap points accepted-front ∙ points-flat (named text)
