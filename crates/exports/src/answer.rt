@@ -69,9 +69,24 @@ pub fn support_of(t: SupportSet) -> Support
     ensures { λ r. ⌜ r ≡ supportOf (members t) ⌝ }
 {
     match t {
-        SupportSet::One(a) => Support { size: 1, a: a, b: a, c: a },
-        SupportSet::Two(a, b) => Support { size: 2, a: a, b: b, c: b },
-        SupportSet::Three(a, b, c) => Support { size: 3, a: a, b: b, c: c },
+        SupportSet::One(a) => Support {
+            size: 1,
+            a,
+            b: a,
+            c: a,
+        },
+        SupportSet::Two(a, b) => Support {
+            size: 2,
+            a,
+            b,
+            c: b,
+        },
+        SupportSet::Three(a, b, c) => Support {
+            size: 3,
+            a,
+            b,
+            c,
+        },
     }
 }
 
@@ -79,14 +94,24 @@ pub fn support_of(t: SupportSet) -> Support
 pub fn no_disk() -> Disk
     ensures { λ d. ⌜ d ≡ noDisk ⌝ }
 {
-    Disk { x: 0, y: 0, e: 0, s: 0 }
+    Disk {
+        x: 0,
+        y: 0,
+        e: 0,
+        s: 0,
+    }
 }
 
 pub fn no_support() -> Support
     ensures { λ t. ⌜ t ≡ noSupport ⌝ }
 {
     let p = Point { x: 0, y: 0 };
-    Support { size: 0, a: p, b: p, c: p }
+    Support {
+        size: 0,
+        a: p,
+        b: p,
+        c: p,
+    }
 }
 
 pub fn given_set(t: Support) -> Given

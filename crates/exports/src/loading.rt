@@ -11,7 +11,13 @@ pub extern "C" fn volkhidar_load(text: &[u8], list: &mut [i16]) -> LoadAnswer
 {
     let loaded = description::load(text, list);
     match loaded {
-        description::Loaded::Points(n) => LoadAnswer { refusal: 0, count: n as u64 },
-        description::Loaded::Refused(r) => LoadAnswer { refusal: crate::answer::code(r), count: 0 },
+        description::Loaded::Points(n) => LoadAnswer {
+            refusal: 0,
+            count: n as u64,
+        },
+        description::Loaded::Refused(r) => LoadAnswer {
+            refusal: crate::answer::code(r),
+            count: 0,
+        },
     }
 }

@@ -5,16 +5,19 @@ ghost use Rattle.geometry.specs.Plane.{members};
 ghost use Rattle.record.specs.Radius.{radiusOf};
 ghost use Rattle.exports.specs.Support.{pointsOf};
 ghost use Rattle.exports.specs.Answers.{radiusAnswer};
+use crate::RadiusAnswer;
+use crate::Support;
 use answers::Refusal;
 use geometry::Disk;
 use geometry::SupportSet;
-use crate::RadiusAnswer;
-use crate::Support;
 
 fn no_radius(r: Refusal) -> RadiusAnswer
     ensures { λ a. ⌜ a ≡ radiusAnswer (refused (numberOf r)) ⌝ }
 {
-    RadiusAnswer { refusal: crate::answer::code(r), radius: 0 }
+    RadiusAnswer {
+        refusal: crate::answer::code(r),
+        radius: 0,
+    }
 }
 
 fn radius_answer(d: Disk, t: SupportSet) -> RadiusAnswer
@@ -22,7 +25,10 @@ fn radius_answer(d: Disk, t: SupportSet) -> RadiusAnswer
 {
     let radius = record::whole_radius(d, t);
     match radius {
-        record::Radius::Whole(r) => RadiusAnswer { refusal: 0, radius: r },
+        record::Radius::Whole(r) => RadiusAnswer {
+            refusal: 0,
+            radius: r,
+        },
         record::Radius::Refused(r) => no_radius(r),
     }
 }

@@ -10,7 +10,15 @@ pub extern "C" fn volkhidar_glyph(bytes: &[u8], k: usize) -> GlyphAnswer
 {
     let opened = sheet::glyph(bytes, k);
     match opened {
-        sheet::Opened::Part(start, len) => GlyphAnswer { refusal: 0, start: start as u64, len: len as u64 },
-        sheet::Opened::Refused(r) => GlyphAnswer { refusal: crate::answer::code(r), start: 0, len: 0 },
+        sheet::Opened::Part(start, len) => GlyphAnswer {
+            refusal: 0,
+            start: start as u64,
+            len: len as u64,
+        },
+        sheet::Opened::Refused(r) => GlyphAnswer {
+            refusal: crate::answer::code(r),
+            start: 0,
+            len: 0,
+        },
     }
 }

@@ -6,11 +6,11 @@ ghost use Rattle.record.specs.Writing.{writeOf, bufferAfter};
 ghost use Rattle.record.specs.Reading.{readOf};
 ghost use Rattle.exports.specs.Support.{pointsOf};
 ghost use Rattle.exports.specs.Answers.{codeOf, recordAnswer};
+use crate::RecordAnswer;
+use crate::Support;
 use answers::Refusal;
 use geometry::Disk;
 use geometry::SupportSet;
-use crate::RecordAnswer;
-use crate::Support;
 
 pub fn write_code(d: Disk, t: SupportSet, buf: &mut [u8]) -> u64
     ensures { λ r. ⌜ r ≡ codeOf (writeOf d (members t) (now (buf .entry))) ⌝ }
@@ -43,7 +43,11 @@ pub extern "C" fn volkhidar_write_record(d: Disk, t: Support, buf: &mut [u8]) ->
 fn no_record(r: Refusal) -> RecordAnswer
     ensures { λ a. ⌜ a ≡ recordAnswer (refused (numberOf r)) ⌝ }
 {
-    RecordAnswer { refusal: crate::answer::code(r), disk: crate::answer::no_disk(), support: crate::answer::no_support() }
+    RecordAnswer {
+        refusal: crate::answer::code(r),
+        disk: crate::answer::no_disk(),
+        support: crate::answer::no_support(),
+    }
 }
 
 #[no_mangle]
@@ -52,7 +56,11 @@ pub extern "C" fn volkhidar_read_record(bytes: &[u8]) -> RecordAnswer
 {
     let record = record::read_record(bytes);
     match record {
-        record::Record::Read(d, t) => RecordAnswer { refusal: 0, disk: d, support: crate::answer::support_of(t) },
+        record::Record::Read(d, t) => RecordAnswer {
+            refusal: 0,
+            disk: d,
+            support: crate::answer::support_of(t),
+        },
         record::Record::Refused(r) => no_record(r),
     }
 }

@@ -29,9 +29,11 @@ same-length c = search needs
 returns : tie.Need-returns
 returns c =
     let found = c .before .before in
-    let engine = found .before .before .before .smallest-disk in
-    (ap (λ (t : Support). record { refusal = 0; disk = found .enclosed .given .0 .0; support = t; tests = found .enclosed .given .0 .1 .1 .0 }) (c .support-of .ensures)
-    ∙ known-outcome outcome diskAnswer (found .enclosed .given .1) (engine .ensures .0), engine .ensures .1)
+    let engine = found .before .before .before .smallest-disk in (
+      ap (λ (t : Support). record { refusal = 0; disk = found .enclosed .given .0 .0; support = t; tests = found .enclosed .given .0 .1 .1 .0 }) (c .support-of .ensures)
+          ∙ known-outcome outcome diskAnswer (found .enclosed .given .1) (engine .ensures .0),
+      engine .ensures .1,
+    )
 
 same-length-2 : tie.Need-same-length-2
 same-length-2 c = search needs
