@@ -139,7 +139,7 @@ int main(int argc, char** argv) {
         std::fprintf(stderr, "no outlines: bench OUTLINES [quick]\n");
         return 1;
     }
-    Settings settings = is_quick ? Settings{2, 0.05, 0.1, 0.005} : Settings{7, 0.5, 1.0, 0.1};
+    Settings settings = is_quick ? Settings{2, 0.05, 0.1, 0.005} : Settings{5, 0.25, 1.0, 0.1};
     std::sort(entries().begin(), entries().end(), [](const Entry& a, const Entry& b) { return a.rank < b.rank; });
     std::printf("kind;n;contestant;exact;lists;seconds;tests;misses;larger;wrong_radius;sticks_out;too_large\n");
     for (Kind kind : KINDS) {

@@ -33,12 +33,13 @@ List uniform(size_t n, Random& random) {
     return list;
 }
 
-// 160,225 = 5^2 * 13 * 17 * 29 is a sum of two squares in 96 ways.
+// 425^2 = 5^4 * 17^2 is a sum of two squares in 60 ways.
 List lattice_circle() {
+    constexpr int RADIUS = 425;
     List on;
-    for (int dx = -400; dx <= 400; dx++) {
-        for (int dy = -400; dy <= 400; dy++) {
-            if (dx * dx + dy * dy == 160225) on.push_back({int16_t(500 + dx), int16_t(250 + dy)});
+    for (int dx = -RADIUS; dx <= RADIUS; dx++) {
+        for (int dy = -RADIUS; dy <= RADIUS; dy++) {
+            if (dx * dx + dy * dy == RADIUS * RADIUS) on.push_back({int16_t(500 + dx), int16_t(250 + dy)});
         }
     }
     return on;

@@ -10,7 +10,7 @@ namespace bench {
 enum class Kind {
     // Anywhere in the em box.
     Uniform,
-    // The 96 lattice points of a circle, drawn with repeats.
+    // The 60 lattice points of a circle of whole radius, drawn with repeats.
     Circle,
     // Around a circle, in order, rounded to the lattice: convex position as far as whole numbers allow it.
     Convex,

@@ -65,6 +65,14 @@ def times(rows):
             [f"time a list (times {base}'s)"] + [f"n = {int(n):,}" for n in sizes], body)
 
 
+def most(rows, key, fault):
+    """The largest error, which is itself worked out in doubles: a fault may be too small for them."""
+    largest = max(float(r[key]) for r in rows)
+    if largest < 1e-12:
+        return "under 1e-12" if any(int(r[fault]) for r in rows) else "none"
+    return f"{largest:.1g}"
+
+
 def faults(rows):
     """A line a floating contestant and kind of list, over all numbers of points."""
     body = []
@@ -73,8 +81,8 @@ def faults(rows):
             here = [r for r in rows if r["contestant"] == name and r["kind"] == kind]
             lists = sum(int(r["lists"]) for r in here)
             share = lambda key: f"{100 * sum(int(r[key]) for r in here) / lists:.1f} %"
-            most = lambda key: f"{max(float(r[key]) for r in here):.1g}"
-            body.append([name, kind, f"{lists:,}", share("misses"), share("larger"), share("wrong_radius"), most("sticks_out"), most("too_large")])
+            body.append([name, kind, f"{lists:,}"] + [share(key) for key in ("misses", "larger", "wrong_radius")]
+                        + [most(here, "sticks_out", "misses"), most(here, "too_large", "larger")])
     head = ["contestant", "lists", "how many", "misses a point", "holds all, not the smallest", "another whole radius", "a point sticks out by", "radius too large by"]
     return table(head, body)
 
