@@ -1,8 +1,82 @@
 #!/usr/bin/env python3
-"""What record_test must write, by document 01: `python3 expected.py > stdout`. Shares nothing with the Rattle code."""
+"""What record_test must write, by document 01: `python3 expected.py > stdout`. Shares no code with the crates; the tables are those of main.rt."""
 from math import gcd, isqrt
 
 RECORD = 44
+
+F = (12, 5, 6, 169)
+FP = [(0, 0), (2, 3), (4, 0)]
+
+# what the case is, X Y E S, the points
+CASES = [
+    ("A", (0, 0, 1, 0), [(0, 0)]),
+    ("B", (3, 0, 2, 9), [(0, 0), (3, 0)]),
+    ("C", (2, 0, 1, 4), [(0, 0), (4, 0)]),
+    ("D", (5, 5, 1, 50), [(0, 0), (10, 10)]),
+    ("E", (3, 4, 1, 25), [(0, 8), (6, 0)]),
+    ("F", F, FP),
+    ("G", (5, 0, 1, 25), [(0, 0), (10, 0)]),
+    ("H", (7, 7, 1, 0), [(7, 7)]),
+    ("I", (1, 1, 1, 2), [(0, 0), (2, 2)]),
+    ("J", (2, 0, 1, 4), [(0, 0), (4, 0)]),
+    ("K", (500, 250, 1, 500_000), [(0, -250), (1000, 750)]),
+    ("left foot of the box", (0, -250, 1, 500_000), [(0, -250)]),
+    ("right top of the box", (1000, 750, 1, 1), [(1000, 750)]),
+    ("largest numbers", (1_999_999_999, -499_999_999, 2_000_000, 2_000_000_000_000_000_000), [(0, -250), (1000, 750)]),
+    ("negative numbers", (1, -7, 3, 11), [(3, -9), (3, -8), (4, -250)]),
+    ("E 0", (12, 5, 0, 0), FP),
+    ("E 2000001", (12, 5, 2_000_001, 169), FP),
+    ("E largest", (12, 5, 2**64 - 1, 169), FP),
+    ("divided by 2", (12, 6, 6, 169), FP),
+    ("divided by 5", (0, 0, 5, 169), FP),
+    ("X -1", (-1, 5, 6, 169), FP),
+    ("X 6001", (6001, 5, 6, 169), FP),
+    ("X least", (-(2**63), 5, 6, 169), FP),
+    ("X largest", (2**63 - 1, 5, 6, 169), FP),
+    ("Y -1501", (12, -1501, 6, 169), FP),
+    ("Y 4501", (12, 4501, 6, 169), FP),
+    ("Y least", (12, -(2**63), 6, 169), FP),
+    ("S 18000001", (12, 5, 6, 18_000_001), FP),
+    ("S largest", (12, 5, 6, 2**64 - 1), FP),
+    ("same point twice", F, [(2, 3), (2, 3)]),
+    ("falling", F, [(2, 3), (0, 0)]),
+    ("falling in y", F, [(2, 3), (2, 2)]),
+    ("first two same", F, [(0, 0), (0, 0), (4, 0)]),
+    ("last two same", F, [(0, 0), (4, 0), (4, 0)]),
+    ("last two fall", F, [(0, 0), (4, 0), (2, 3)]),
+    ("x -1", F, [(-1, 0)]),
+    ("x 1001", F, [(0, 0), (1001, 0)]),
+    ("y -251", F, [(0, -251), (2, 3), (4, 0)]),
+    ("y 751", F, [(0, 0), (2, 751), (4, 0)]),
+    ("x least", F, [(-32768, 0)]),
+    ("y largest", F, [(0, 32767)]),
+]
+
+# what the damage to F's record is, the byte's place, its new value
+DAMAGES = [
+    ("none", 0, 0),
+    ("X negative", 0, 0x80),
+    ("X beyond the box", 6, 0x18),
+    ("X another, within the box", 6, 0x16),
+    ("Y negative", 8, 0xFF),
+    ("Y beyond the box", 14, 0x12),
+    ("Y divisible", 15, 6),
+    ("E zero", 23, 0),
+    ("E too large", 20, 1),
+    ("S too large", 28, 2),
+    ("S another, within its limit", 31, 0xAA),
+    ("first x beyond the second", 33, 3),
+    ("first x negative", 32, 0x80),
+    ("first y beyond the box", 34, 3),
+    ("second x beyond the third", 37, 5),
+    ("second x as the first", 37, 0),
+    ("second y beyond the box", 38, 3),
+    ("second y negative", 38, 0xFF),
+    ("third x beyond the box", 40, 4),
+    ("third x before the second", 41, 1),
+    ("third y negative", 42, 0xFF),
+    ("third y least", 42, 0x80),
+]
 
 
 def valid(x, y, e, s, pts):
@@ -26,12 +100,12 @@ def record(x, y, e, s, pts):
     return out
 
 
-def write(x, y, e, s, pts, buf):
+def write(d, pts, buf):
     if len(buf) < RECORD:
         return " refused 8", buf
-    if not valid(x, y, e, s, pts):
+    if not valid(*d, pts):
         return " refused 7", buf
-    return " written", record(x, y, e, s, pts) + buf[RECORD:]
+    return " written", record(*d, pts) + buf[RECORD:]
 
 
 def read(data):
@@ -48,8 +122,9 @@ def read(data):
     return " refused 7"
 
 
-def radius(x, y, e, s, pts):
-    if not valid(x, y, e, s, pts):
+def radius(d, pts):
+    x, y, e, s = d
+    if not valid(*d, pts):
         return " refused 7"
     r = isqrt(s // (e * e))
     while r * r * e * e < s:
@@ -57,127 +132,27 @@ def radius(x, y, e, s, pts):
     return " radius %d" % r
 
 
-def letter(name, d, pts):
-    answer, buf = write(*d, pts, b"\xaa" * 44)
-    print(name + answer + " " + buf.hex())
-    print(name + read(buf))
-    print(name + radius(*d, pts))
+def main():
+    for k, (_, d, pts) in enumerate(CASES):
+        answer, buf = write(d, pts, b"\xaa" * 44)
+        print("case %d" % k + answer + " " + buf.hex() + read(buf) + radius(d, pts))
+    for n in (0, 43, 50):
+        first, buf = write(F, FP, b"\xaa" * n)
+        second, again = write(CASES[15][1], FP, buf)
+        print("buffer of %d" % n + first + " " + buf.hex() + second + " " + again.hex())
+    for _, at, value in DAMAGES:
+        data = bytearray(record(*F, FP))
+        data[at] = value
+        print("byte %d" % at + read(bytes(data)))
+    print("repeated" + read(record(*F, [(0, 0), (0, 3), (4, 0)])) + read(record(*F, [(0, 0), (0, 0), (4, 0)])))
+    long = record(*F, FP) + bytes(6)
+    for n in (0, 43, 44, 45, 50):
+        print("length %d" % n + read(long[:n]))
+    for r in range(708):
+        for x, e in ((0, 1), (1, 2), (1, 997)):
+            s = (r * e) ** 2
+            print("square" + "".join(radius((x, 0, e, t), [(0, 0)]) for t in (s - 1, s, s + 1) if 0 <= t))
 
 
-F = (12, 5, 6, 169)
-FP = [(0, 0), (2, 3), (4, 0)]
-
-letter("A", (0, 0, 1, 0), [(0, 0)])
-letter("B", (3, 0, 2, 9), [(0, 0), (3, 0)])
-letter("C", (2, 0, 1, 4), [(0, 0), (4, 0)])
-letter("D", (5, 5, 1, 50), [(0, 0), (10, 10)])
-letter("E", (3, 4, 1, 25), [(0, 8), (6, 0)])
-letter("F", F, FP)
-letter("G", (5, 0, 1, 25), [(0, 0), (10, 0)])
-letter("H", (7, 7, 1, 0), [(7, 7)])
-letter("I", (1, 1, 1, 2), [(0, 0), (2, 2)])
-letter("J", (2, 0, 1, 4), [(0, 0), (4, 0)])
-letter("K", (500, 250, 1, 500_000), [(0, -250), (1000, 750)])
-
-letter("left foot", (0, -250, 1, 500_000), [(0, -250)])
-letter("right top", (1000, 750, 1, 1), [(1000, 750)])
-letter("largest", (1_999_999_999, -499_999_999, 2_000_000, 2_000_000_000_000_000_000), [(0, -250), (1000, 750)])
-letter("negative", (1, -7, 3, 11), [(3, -9), (3, -8), (4, -250)])
-
-
-def buffer(name, d, size):
-    answer, buf = write(*d, FP, b"\xaa" * size)
-    print(name + answer + " " + buf.hex())
-
-
-buffer("buffer of 0", F, 0)
-buffer("buffer of 43", F, 43)
-answer, fifty = write(*F, FP, b"\xaa" * 50)
-print("buffer of 50" + answer + " " + fifty.hex())
-bad = (12, 5, 0, 169)
-buffer("buffer of 43, not valid", bad, 43)
-answer, fifty = write(*bad, FP, fifty)
-print("buffer of 50, not valid" + answer + " " + fifty.hex())
-
-
-def broken(name, d, pts):
-    answer, buf = write(*d, pts, b"\xaa" * 44)
-    print(name + radius(*d, pts) + answer + " " + buf.hex())
-
-
-broken("E 0", (12, 5, 0, 0), FP)
-broken("E 2000001", (12, 5, 2_000_001, 169), FP)
-broken("E largest", (12, 5, 2**64 - 1, 169), FP)
-broken("divided by 2", (12, 6, 6, 169), FP)
-broken("divided by 5", (0, 0, 5, 169), FP)
-broken("X -1", (-1, 5, 6, 169), FP)
-broken("X 6001", (6001, 5, 6, 169), FP)
-broken("X least", (-(2**63), 5, 6, 169), FP)
-broken("X largest", (2**63 - 1, 5, 6, 169), FP)
-broken("Y -1501", (12, -1501, 6, 169), FP)
-broken("Y 4501", (12, 4501, 6, 169), FP)
-broken("Y least", (12, -(2**63), 6, 169), FP)
-broken("S 18000001", (12, 5, 6, 18_000_001), FP)
-broken("S largest", (12, 5, 6, 2**64 - 1), FP)
-
-broken("same point twice", F, [(2, 3), (2, 3)])
-broken("falling", F, [(2, 3), (0, 0)])
-broken("falling in y", F, [(2, 3), (2, 2)])
-broken("first two same", F, [(0, 0), (0, 0), (4, 0)])
-broken("last two same", F, [(0, 0), (4, 0), (4, 0)])
-broken("last two fall", F, [(0, 0), (4, 0), (2, 3)])
-broken("x -1", F, [(-1, 0)])
-broken("x 1001", F, [(0, 0), (1001, 0)])
-broken("y -251", F, [(0, -251), (2, 3), (4, 0)])
-broken("y 751", F, [(0, 0), (2, 751), (4, 0)])
-broken("x least", F, [(-32768, 0)])
-broken("y largest", F, [(0, 32767)])
-
-
-def damaged(name, at, value):
-    data = bytearray(record(*F, FP))
-    data[at] = value
-    print(name + read(bytes(data)))
-
-
-damaged("nothing", 0, 0)
-damaged("X negative", 0, 0x80)
-damaged("X beyond the box", 6, 0x18)
-damaged("X within the box", 6, 0x17)
-damaged("Y negative", 8, 0xFF)
-damaged("Y beyond the box", 14, 0x12)
-damaged("Y divisible", 15, 6)
-damaged("E zero", 23, 0)
-damaged("E too large", 20, 1)
-damaged("S too large", 28, 2)
-damaged("S another", 31, 0xAA)
-damaged("first x beyond the second", 33, 3)
-damaged("first x negative", 32, 0x80)
-damaged("first y beyond the box", 34, 3)
-damaged("second x beyond the third", 37, 5)
-damaged("second x as the first", 37, 0)
-damaged("second y beyond the box", 38, 3)
-damaged("second y negative", 38, 0xFF)
-damaged("third x beyond the box", 40, 4)
-damaged("third x before the second", 41, 1)
-damaged("third y negative", 42, 0xFF)
-damaged("third y least", 42, 0x80)
-
-long = record(*F, FP) + bytes(6)
-for n in (0, 43, 44, 45, 50):
-    print("length %d" % n + read(long[:n]))
-
-
-def squares(x, e, r):
-    s = (r * e) ** 2
-    line = "square"
-    for t in (s - 1, s, s + 1):
-        if 0 <= t:
-            line += radius(x, 0, e, t, [(0, 0)])
-    print(line)
-
-
-for r in range(708):
-    squares(0, 1, r)
-    squares(1, 2, r)
-    squares(1, 997, r)
+if __name__ == "__main__":
+    main()

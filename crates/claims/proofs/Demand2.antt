@@ -32,7 +32,7 @@ right (p ∷ P) some box = record {
   no-other-support = λ S f. first-unique (same-refl (p ∷ P)) f (first-support p P);
 }
 
-engine-right : (l : List ℤ) (e : Enclosure) → encloseOf l ≡ given e → EngineIsRight (points l) e
+pub engine-right : (l : List ℤ) (e : Enclosure) → encloseOf l ≡ given e → EngineIsRight (points l) e
 engine-right l e h =
     let a = accepted-list l e h in
     subst (EngineIsRight (points l)) (sym (a .answer)) (right (points l) (has-point l (a .even) (a .some)) (a .boxed))

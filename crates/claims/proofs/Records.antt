@@ -1,6 +1,6 @@
 -- Records: what the writer gives and leaves, and when two are equal.
 --
---   written, filled    : a valid disk and points, in a buffer that is long enough: the writer is done, and the record stands in front
+--   written, in-front, filled : a valid disk and points, in a buffer that is long enough: the writer is done, and the record stands in front
 --   written-valid      : what the writer does not refuse is valid, and the buffer long enough
 use mathlib.Core.Path.{_≡_, refl, sym, ap, _∙_, subst}
 use mathlib.Core.Bool.{true, _&&_}
@@ -36,7 +36,8 @@ module _ (d : Disk) (ps : List Point) (buf : List ℕ) where
       let seven = not-refused _ 7 (eight .1) in
       (ltb-false (length buf) recordLength (eight .0), not-false _ (seven .0))
 
+  pub in-front : valid d ps ≡ true → take recordLength (recordBytes d ps ++ drop recordLength buf) ≡ recordBytes d ps
+  in-front v = take-at (recordBytes d ps) (drop recordLength buf) recordLength (recordBytes-length d ps (counted d ps v))
+
   pub filled : writeOf d ps buf ≡ given tt → take recordLength (bufferAfter d ps buf) ≡ recordBytes d ps
-  filled e =
-      ap (λ (o : Outcome (Unit {0})). take recordLength (leftBy o d ps buf)) e
-      ∙ take-at (recordBytes d ps) (drop recordLength buf) recordLength (recordBytes-length d ps (counted d ps (written-valid e .1)))
+  filled e = ap (λ (o : Outcome (Unit {0})). take recordLength (leftBy o d ps buf)) e ∙ in-front (written-valid e .1)

@@ -128,18 +128,21 @@ fn too_long(label: &[u8], bytes: &[u8]) {
     rooms(label, &text, MARK, MARK);
 }
 
-fn boxes() {
+fn x_edges() {
     given(b"x 1000", b"1000 0\n", 1000, 0);
     refused(b"x 1001", b"1001 0\n");
     given(b"x 0", b"0 0\n", 0, 0);
     refused(b"x -1", b"-1 0\n");
+}
+
+fn y_edges() {
     given(b"y -250", b"0 -250\n", 0, -250);
     refused(b"y -251", b"0 -251\n");
     given(b"y 750", b"0 750\n", 0, 750);
     refused(b"y 751", b"0 751\n");
 }
 
-fn numbers() {
+fn digit_counts() {
     given(b"leading zeros", b"0012 0003\n", 12, 3);
     given(b"minus zero", b"-0 -0000\n", 0, 0);
     given(b"four digits behind a minus", b"5 -0250\n", 5, -250);
@@ -147,25 +150,37 @@ fn numbers() {
     refused(b"five digits of a small value", b"01000 0\n");
     refused(b"five digits behind a minus", b"0 -00250\n");
     refused(b"five digits, outside the box as well", b"99999 0\n");
+}
+
+fn signs() {
     refused(b"minus alone", b"-\n");
     refused(b"minus and a space", b"- 1 2\n");
     refused(b"minus as y", b"1 -\n");
     refused(b"two minuses", b"--1 2\n");
     refused(b"plus", b"+1 2\n");
     refused(b"minus between", b"5-3\n");
+}
+
+fn other_bytes() {
     refused(b"letter", b"1a 2\n");
     refused(b"point and comma", b"1.5 2,5\n");
 }
 
-fn lines() {
+fn line_forms() {
     given(b"no final line feed", b"1 2\n3 4", 1, 2);
     given(b"final line feed", b"1 2\n3 4\n", 1, 2);
     given(b"spaces around", b"   1   2   \n3 4", 1, 2);
     given(b"blank lines", b"\n  \n\n1 2\n \n\n3 4\n\n   ", 1, 2);
     given(b"repeats", b"7 7\n7 7\n7 7\n", 7, 7);
+}
+
+fn no_points() {
     refused(b"empty", b"");
     refused(b"lone line feed", b"\n");
     refused(b"blank lines only", b"  \n\n   ");
+}
+
+fn bad_lines() {
     refused(b"one number", b"1\n2\n");
     refused(b"three numbers", b"1 2 3\n");
     refused(b"carriage return", b"1 2\r\n");
@@ -174,18 +189,24 @@ fn lines() {
     refused(b"zero byte", b"1 2\x00\n");
 }
 
-fn orders() {
+fn fault_orders() {
     refused(b"form before box in a line", b"1001 x\n");
     refused(b"outside the box, then a bad line", b"1001 0\nx\n");
     refused(b"a bad line, then outside the box", b"x\n1001 0\n");
     refused(b"points before a bad line", b"1 2\n3 4\nx\n");
     refused(b"no point before a bad line", b"\n\nx\n");
+}
+
+fn point_counts() {
     many(b"4096 points", b"", 0);
     many(b"4096 points and blank lines", b"\n  \n\n", 0);
     many(b"4097 points", b"0 0\n", MARK);
     many(b"bad line 4097", b"0 x\n", MARK);
     many(b"outside at 4097", b"1001 0\n", MARK);
     many(b"4097 points, then a bad line", b"0 0\nx\n", MARK);
+}
+
+fn sizes() {
     rooms(b"8191 and 8192 numbers", b"1 2\n", 1, 2);
     rooms(b"8191 and 8192 numbers, bad line", b"x\n", MARK, MARK);
     longest(b"65535 bytes", b"1 2\n", 1, 2);
@@ -195,8 +216,15 @@ fn orders() {
 }
 
 fn main() {
-    boxes();
-    numbers();
-    lines();
-    orders();
+    x_edges();
+    y_edges();
+    digit_counts();
+    signs();
+    other_bytes();
+    line_forms();
+    no_points();
+    bad_lines();
+    fault_orders();
+    point_counts();
+    sizes();
 }

@@ -5,7 +5,7 @@
 --   before-differ   : a point that comes before another is not the same
 use mathlib.Core.Path.{_≡_, refl, sym, ap, ap₂, _∙_}
 use mathlib.Core.Bool.{Bool, true, false, true≢false, _&&_}
-use mathlib.Core.List.{List, [], _∷_}
+use mathlib.Core.List.{[], _∷_}
 use lib.IntN.{ℤ}
 use lib.Signed.{ltZ}
 use Rattle.integers.specs.Bounds.{lt-true}

@@ -5,10 +5,11 @@
 --   radius-is-least   : `wholeRadius d` is the least number that reaches, where E is at least 1
 --   radius-only       : and the only one
 --   reaches-limit     : 708 reaches, where S/E² keeps to its limit
+--   radius-limit      : so no whole radius is larger
 use mathlib.Core.Path.{_≡_, refl, sym, _∙_, subst}
 use mathlib.Core.Bool.{Bool, true, false, true≢false}
-use Prim.Native.Nat.{ℕ, zero, suc, _*_, _≤_, zero-le}
-use native.Mathlib.Nat.{mul-le-mul, mul-le-mul-left, mul-le-mul-right, mul-one, le-trans}
+use Prim.Native.Nat.{ℕ, zero, suc, _*_, _≤_, _<_, zero-le}
+use native.Mathlib.Nat.{mul-le-mul, mul-le-mul-left, mul-le-mul-right, mul-one, le-trans, lt-of-not-le}
 use native.Mathlib.Omega.{arith}
 use borrow.Author.Tests.{le-leb, leb-true}
 use Rattle.geometry.specs.declared.Disk.{Disk}
@@ -46,3 +47,8 @@ radius-is-least d h =
 
 pub radius-only : (d : Disk) {r : ℕ} → 1 ≤ d .e → IsLeast (reaches d) r → r ≡ wholeRadius d
 radius-only d h i = only-least i (radius-is-least d h)
+
+pub radius-limit : (d : Disk) → DiskBounds d → wholeRadius d ≤ 708
+radius-limit d k =
+    let w = wholeRadius d in
+    let l : w < 709 = lt-of-not-le (λ (h : 709 ≤ w). true≢false (sym (reaches-limit d k) ∙ radius-is-least d (k .e-some) .first 708 h)) in omega arith

@@ -3,31 +3,28 @@
 --   eqZ-eq, eqZ-refl   : `eqZ` decides equality of whole numbers
 --   same-eq, same-refl : `same` decides equality of points
 --   same-bits          : coordinates are compared by their bits
-use mathlib.Core.Path.{_≡_, refl, sym, ap, ap₂, _∙_, subst}
-use mathlib.Core.Bool.{Bool, true, false, true≢false, _&&_}
+use mathlib.Core.Path.{_≡_, refl, sym, ap, _∙_, subst}
+use mathlib.Core.Bool.{Bool, true, false, true≢false}
 use borrow.Author.Tests.{eqb-true, eq-eqb}
-use lib.Dec.{T, eqb}
+use lib.Dec.{eqb}
 use lib.IntN.{ℤ}
 use lib.Signed.{leZ}
 use mir.Syntax.{w16}
 use mir.Val.{SFits, toZ, ofZ}
 use mir.Facts.{toZ-ofZ}
-use Rattle.integers.specs.Between.{first, rest, pass}
+use Rattle.integers.specs.Between.{first, rest}
 use Rattle.integers.specs.Bounds.{le-true}
 use Rattle.integers.specs.Order.{≤-refl, ≤-antisym}
 use Rattle.geometry.specs.declared.Point.{Point}
 use Rattle.geometry.specs.Order.{eqZ}
 use Rattle.record.specs.Reading.{same}
-
-holds : {b : Bool} → T b → b ≡ true
-holds {b = true} t = refl
-holds {b = false} t = absurd t
+use Rattle.record.proofs.Row.{both, is-true}
 
 pub eqZ-eq : (a b : ℤ) → eqZ a b ≡ true → a ≡ b
 eqZ-eq a b h = ≤-antisym (le-true a b (first (leZ a b) (leZ b a) h)) (le-true b a (rest (leZ a b) (leZ b a) h))
 
 pub eqZ-refl : (a : ℤ) → eqZ a a ≡ true
-eqZ-refl a = let h : leZ a a ≡ true = holds {b = leZ a a} (≤-refl a .le) in sym (pass h (sym h))
+eqZ-refl a = let h : leZ a a ≡ true = is-true (leZ a a) (≤-refl a .le) in both h h
 
 pub same-eq : (p q : Point) → same p q ≡ true → p ≡ q
 unfolding same
@@ -38,7 +35,7 @@ same-eq p q h =
 
 pub same-refl : (p : Point) → same p p ≡ true
 unfolding same
-same-refl p = sym (pass (eqZ-refl (p .x)) (sym (eqZ-refl (p .y))))
+same-refl p = both (eqZ-refl (p .x)) (eqZ-refl (p .y))
 
 pub same-bits : {a b : ℤ} → SFits w16 a → SFits w16 b → eqb (ofZ w16 a) (ofZ w16 b) ≡ eqZ a b
 same-bits {a} {b} f g = go (eqb (ofZ w16 a) (ofZ w16 b)) (eqZ a b) refl refl

@@ -1,24 +1,31 @@
 -- What a valid disk and its points are known to keep to.
 --
---   DiskBounds d               == the limits of E, X, Y and S, as facts
+--   DiskBounds d           == the limits of E, X, Y and S, as facts
 --   limits                 : a valid disk keeps to them
 --   scale-limits, centre-limits : the limits that each test settles
 --   valid-disk, valid-points    : the two halves of `valid`
+--   lowest-reduced, reduced-lowest : the divisor rule says that no number above 1 divides X, Y and E
+--   disk-valid, points-valid, both-valid : what makes a disk and its points valid
 --   em-box-scaled          : a point is in the em box where, as a centre with E = 1, it is
-use mathlib.Core.Path.{_≡_, refl}
+use mathlib.Core.Path.{_≡_, refl, subst}
 use mathlib.Core.Bool.{true, _&&_}
 use mathlib.Core.List.{List}
-use Prim.Native.Nat.{_*_, _≤_}
+use Prim.Native.Nat.{ℕ, _*_, _≤_, _∣_}
+use native.Mathlib.Nat.{eq-one-of-dvd-one}
 use native.Mathlib.Omega.{arith}
-use borrow.Author.Tests.{leb-true}
+use borrow.Author.Tests.{leb-true, le-leb, eqb-true, eq-eqb}
 use lib.Dec.{leb}
-use lib.IntN.{pos, negsuc, natAbs, _*ℤ_}
+use lib.IntN.{ℤ, pos, negsuc, natAbs, _*ℤ_}
+use lib.Signed.{leZ}
 use Rattle.integers.specs.Abs.{abs-*}
 use Rattle.integers.specs.Between.{between, between-size, first, rest}
+use Rattle.integers.specs.LowestTerms.{common, Reduced, divides-x, divides-y, divides-e, common-greatest}
+use Rattle.integers.specs.Order.{_≼_}
 use Rattle.geometry.specs.declared.Point.{Point}
 use Rattle.geometry.specs.declared.Disk.{Disk}
-use Rattle.geometry.specs.Plane.{inEmBox}
-use Rattle.record.specs.Valid.{maxE, maxSquare, scaleInLimit, centreInEmBox, squareInLimit, isLowest, validDisk, validPoints, valid}
+use Rattle.geometry.specs.Plane.{inEmBox, allInEmBox}
+use Rattle.record.specs.Valid.{maxE, maxSquare, scaleInLimit, centreInEmBox, squareInLimit, isLowest, validDisk, oneToThree, rising, validPoints, valid}
+use Rattle.record.proofs.Row.{both, is-true}
 
 pub record DiskBounds (d : Disk) : Type 0 where
   pub e-some : 1 ≤ d .e
@@ -70,3 +77,40 @@ valid-points d ps h = rest (validDisk d) (validPoints ps) h
 pub em-box-scaled : (p : Point) (s : _) → centreInEmBox (record { x = p .x; y = p .y; e = 1; s = s }) ≡ inEmBox p
 unfolding centreInEmBox inEmBox
 em-box-scaled p s = refl
+
+-- ---- the divisor rule, by its meaning
+
+pub lowest-reduced : (d : Disk) → isLowest d ≡ true → Reduced (d .x) (d .y) (d .e)
+lowest-reduced d h g p q r =
+    eq-one-of-dvd-one
+    (subst (λ (n : ℕ). g ∣ n) (eqb-true (common (d .x) (d .y) (d .e)) 1 h) (common-greatest (d .x) (d .y) (d .e) g p q r))
+
+pub reduced-lowest : (d : Disk) → Reduced (d .x) (d .y) (d .e) → isLowest d ≡ true
+reduced-lowest d h =
+    let x = d .x in
+    let y = d .y in
+    let e = d .e in eq-eqb (common x y e) 1 (h (common x y e) (divides-x x y e) (divides-y x y e) (divides-e x y e))
+
+-- ---- what makes them valid
+
+test : (a b : ℤ) → a ≼ b → leZ a b ≡ true
+test a b h = is-true (leZ a b) (h .le)
+
+pub disk-valid : (d : Disk) → 1 ≤ d .e → d .e ≤ maxE → Reduced (d .x) (d .y) (d .e)
+    → pos 0 ≼ d .x → d .x ≼ pos 1000 *ℤ pos (d .e) → negsuc 249 *ℤ pos (d .e) ≼ d .y → d .y ≼ pos 750 *ℤ pos (d .e)
+    → d .s ≤ maxSquare * (d .e * d .e) → validDisk d ≡ true
+unfolding validDisk centreInEmBox
+disk-valid d some small reduced left right foot top square =
+    both (both (le-leb 1 (d .e) some) (le-leb (d .e) maxE small))
+    (both (reduced-lowest d reduced)
+    (both
+    (both (both (test (pos 0) (d .x) left) (test (d .x) (pos 1000 *ℤ pos (d .e)) right)) (both (test (negsuc 249 *ℤ pos (d .e)) (d .y) foot) (test (d .y) (pos 750 *ℤ pos (d .e)) top)))
+    (le-leb (d .s) (maxSquare * (d .e * d .e)) square)))
+
+pub points-valid : (ps : List Point) → oneToThree ps ≡ true → rising ps ≡ true → allInEmBox ps ≡ true → validPoints ps ≡ true
+unfolding validPoints
+points-valid ps n r m = both n (both r m)
+
+pub both-valid : (d : Disk) (ps : List Point) → validDisk d ≡ true → validPoints ps ≡ true → valid d ps ≡ true
+unfolding valid
+both-valid d ps h k = both h k

@@ -111,34 +111,20 @@ fn disk(x: i64, y: i64, e: u64, s: u64) -> Disk {
     Disk { x, y, e, s }
 }
 
-fn one(x: i16, y: i16) -> SupportSet {
-    SupportSet::One(Point { x, y })
-}
-
-fn two(x: i16, y: i16, v: i16, w: i16) -> SupportSet {
-    SupportSet::Two(Point { x, y }, Point { x: v, y: w })
-}
-
-fn three(a: Point, b: Point, c: Point) -> SupportSet {
-    SupportSet::Three(a, b, c)
-}
-
 fn point(x: i16, y: i16) -> Point {
     Point { x, y }
 }
 
-// One line a step: written into a buffer of 44 bytes, read back, the radius.
-fn letter(name: &[u8], d: Disk, t: SupportSet) {
-    let mut buf = [0xaau8; 44];
-    io::write_all(1, name);
-    show_write(d, t, &mut buf);
-    end_line();
-    io::write_all(1, name);
-    show_read(&buf);
-    end_line();
-    io::write_all(1, name);
-    show_radius(d, t);
-    end_line();
+fn one(x: i16, y: i16) -> SupportSet {
+    SupportSet::One(point(x, y))
+}
+
+fn two(x: i16, y: i16, v: i16, w: i16) -> SupportSet {
+    SupportSet::Two(point(x, y), point(v, w))
+}
+
+fn three(a: Point, b: Point, c: Point) -> SupportSet {
+    SupportSet::Three(a, b, c)
 }
 
 fn f_disk() -> Disk {
@@ -149,141 +135,112 @@ fn f_points() -> SupportSet {
     three(point(0, 0), point(2, 3), point(4, 0))
 }
 
-fn letters() {
-    letter(b"A", disk(0, 0, 1, 0), one(0, 0));
-    letter(b"B", disk(3, 0, 2, 9), two(0, 0, 3, 0));
-    letter(b"C", disk(2, 0, 1, 4), two(0, 0, 4, 0));
-    letter(b"D", disk(5, 5, 1, 50), two(0, 0, 10, 10));
-    letter(b"E", disk(3, 4, 1, 25), two(0, 8, 6, 0));
-    letter(b"F", f_disk(), f_points());
-    letter(b"G", disk(5, 0, 1, 25), two(0, 0, 10, 0));
-    letter(b"H", disk(7, 7, 1, 0), one(7, 7));
-    letter(b"I", disk(1, 1, 1, 2), two(0, 0, 2, 2));
-    letter(b"J", disk(2, 0, 1, 4), two(0, 0, 4, 0));
-    letter(b"K", disk(500, 250, 1, 500_000), two(0, -250, 1000, 750));
-}
-
-// Numbers at their limits, negative ones among them.
-fn edges() {
-    letter(b"left foot", disk(0, -250, 1, 500_000), one(0, -250));
-    letter(b"right top", disk(1000, 750, 1, 1), one(1000, 750));
-    letter(
-        b"largest",
-        disk(
+// The cases: the letters A to K, numbers at their limits, then disks and points that break a rule. What each is stands in expected.py.
+fn case_disk(k: usize) -> Disk {
+    match k {
+        0 => disk(0, 0, 1, 0),
+        1 => disk(3, 0, 2, 9),
+        2 => disk(2, 0, 1, 4),
+        3 => disk(5, 5, 1, 50),
+        4 => disk(3, 4, 1, 25),
+        6 => disk(5, 0, 1, 25),
+        7 => disk(7, 7, 1, 0),
+        8 => disk(1, 1, 1, 2),
+        9 => disk(2, 0, 1, 4),
+        10 => disk(500, 250, 1, 500_000),
+        11 => disk(0, -250, 1, 500_000),
+        12 => disk(1000, 750, 1, 1),
+        13 => disk(
             1_999_999_999,
             -499_999_999,
             2_000_000,
             2_000_000_000_000_000_000,
         ),
-        two(0, -250, 1000, 750),
-    );
-    letter(
-        b"negative",
-        disk(1, -7, 3, 11),
-        three(point(3, -9), point(3, -8), point(4, -250)),
-    );
+        14 => disk(1, -7, 3, 11),
+        15 => disk(12, 5, 0, 0),
+        16 => disk(12, 5, 2_000_001, 169),
+        17 => disk(12, 5, 0xffff_ffff_ffff_ffff, 169),
+        18 => disk(12, 6, 6, 169),
+        19 => disk(0, 0, 5, 169),
+        20 => disk(-1, 5, 6, 169),
+        21 => disk(6001, 5, 6, 169),
+        22 => disk(-9_223_372_036_854_775_808, 5, 6, 169),
+        23 => disk(9_223_372_036_854_775_807, 5, 6, 169),
+        24 => disk(12, -1501, 6, 169),
+        25 => disk(12, 4501, 6, 169),
+        26 => disk(12, -9_223_372_036_854_775_808, 6, 169),
+        27 => disk(12, 5, 6, 18_000_001),
+        28 => disk(12, 5, 6, 0xffff_ffff_ffff_ffff),
+        _ => f_disk(),
+    }
+}
+
+fn case_points(k: usize) -> SupportSet {
+    match k {
+        0 => one(0, 0),
+        1 => two(0, 0, 3, 0),
+        2 => two(0, 0, 4, 0),
+        3 => two(0, 0, 10, 10),
+        4 => two(0, 8, 6, 0),
+        6 => two(0, 0, 10, 0),
+        7 => one(7, 7),
+        8 => two(0, 0, 2, 2),
+        9 => two(0, 0, 4, 0),
+        10 => two(0, -250, 1000, 750),
+        11 => one(0, -250),
+        12 => one(1000, 750),
+        13 => two(0, -250, 1000, 750),
+        14 => three(point(3, -9), point(3, -8), point(4, -250)),
+        29 => two(2, 3, 2, 3),
+        30 => two(2, 3, 0, 0),
+        31 => two(2, 3, 2, 2),
+        32 => three(point(0, 0), point(0, 0), point(4, 0)),
+        33 => three(point(0, 0), point(4, 0), point(4, 0)),
+        34 => three(point(0, 0), point(4, 0), point(2, 3)),
+        35 => one(-1, 0),
+        36 => two(0, 0, 1001, 0),
+        37 => three(point(0, -251), point(2, 3), point(4, 0)),
+        38 => three(point(0, 0), point(2, 751), point(4, 0)),
+        39 => one(-32_768, 0),
+        40 => one(0, 32_767),
+        _ => f_points(),
+    }
+}
+
+// Written into a buffer of 44 bytes, read back, the radius.
+fn show_case(d: Disk, t: SupportSet) {
+    let mut buf = [0xaau8; 44];
+    show_write(d, t, &mut buf);
+    show_read(&buf);
+    show_radius(d, t);
+    end_line();
+}
+
+fn cases() {
+    let mut k: usize = 0;
+    while k < 41 {
+        io::write_all(1, b"case ");
+        io::print_decimal(1, k as u64);
+        show_case(case_disk(k), case_points(k));
+        k += 1;
+    }
+}
+
+fn buffer_of(n: usize, buf: &mut [u8]) {
+    io::write_all(1, b"buffer of ");
+    io::print_decimal(1, n as u64);
+    show_write(f_disk(), f_points(), buf);
+    show_write(case_disk(15), f_points(), buf);
+    end_line();
 }
 
 fn buffers() {
     let mut none = [0xaau8; 0];
     let mut short = [0xaau8; 43];
     let mut long = [0xaau8; 50];
-    io::write_all(1, b"buffer of 0");
-    show_write(f_disk(), f_points(), &mut none);
-    end_line();
-    io::write_all(1, b"buffer of 43");
-    show_write(f_disk(), f_points(), &mut short);
-    end_line();
-    io::write_all(1, b"buffer of 50");
-    show_write(f_disk(), f_points(), &mut long);
-    end_line();
-    io::write_all(1, b"buffer of 43, not valid");
-    show_write(disk(12, 5, 0, 169), f_points(), &mut short);
-    end_line();
-    io::write_all(1, b"buffer of 50, not valid");
-    show_write(disk(12, 5, 0, 169), f_points(), &mut long);
-    end_line();
-}
-
-// Written, read or its radius asked for, it is refused as 7.
-fn broken(name: &[u8], d: Disk, t: SupportSet) {
-    let mut buf = [0xaau8; 44];
-    io::write_all(1, name);
-    show_radius(d, t);
-    show_write(d, t, &mut buf);
-    end_line();
-}
-
-fn broken_disks() {
-    broken(b"E 0", disk(12, 5, 0, 0), f_points());
-    broken(b"E 2000001", disk(12, 5, 2_000_001, 169), f_points());
-    broken(
-        b"E largest",
-        disk(12, 5, 0xffff_ffff_ffff_ffff, 169),
-        f_points(),
-    );
-    broken(b"divided by 2", disk(12, 6, 6, 169), f_points());
-    broken(b"divided by 5", disk(0, 0, 5, 169), f_points());
-    broken(b"X -1", disk(-1, 5, 6, 169), f_points());
-    broken(b"X 6001", disk(6001, 5, 6, 169), f_points());
-    broken(
-        b"X least",
-        disk(-9_223_372_036_854_775_808, 5, 6, 169),
-        f_points(),
-    );
-    broken(
-        b"X largest",
-        disk(9_223_372_036_854_775_807, 5, 6, 169),
-        f_points(),
-    );
-    broken(b"Y -1501", disk(12, -1501, 6, 169), f_points());
-    broken(b"Y 4501", disk(12, 4501, 6, 169), f_points());
-    broken(
-        b"Y least",
-        disk(12, -9_223_372_036_854_775_808, 6, 169),
-        f_points(),
-    );
-    broken(b"S 18000001", disk(12, 5, 6, 18_000_001), f_points());
-    broken(
-        b"S largest",
-        disk(12, 5, 6, 0xffff_ffff_ffff_ffff),
-        f_points(),
-    );
-}
-
-fn broken_points() {
-    broken(b"same point twice", f_disk(), two(2, 3, 2, 3));
-    broken(b"falling", f_disk(), two(2, 3, 0, 0));
-    broken(b"falling in y", f_disk(), two(2, 3, 2, 2));
-    broken(
-        b"first two same",
-        f_disk(),
-        three(point(0, 0), point(0, 0), point(4, 0)),
-    );
-    broken(
-        b"last two same",
-        f_disk(),
-        three(point(0, 0), point(4, 0), point(4, 0)),
-    );
-    broken(
-        b"last two fall",
-        f_disk(),
-        three(point(0, 0), point(4, 0), point(2, 3)),
-    );
-    broken(b"x -1", f_disk(), one(-1, 0));
-    broken(b"x 1001", f_disk(), two(0, 0, 1001, 0));
-    broken(
-        b"y -251",
-        f_disk(),
-        three(point(0, -251), point(2, 3), point(4, 0)),
-    );
-    broken(
-        b"y 751",
-        f_disk(),
-        three(point(0, 0), point(2, 751), point(4, 0)),
-    );
-    broken(b"x least", f_disk(), one(-32_768, 0));
-    broken(b"y largest", f_disk(), one(0, 32_767));
+    buffer_of(0, &mut none);
+    buffer_of(43, &mut short);
+    buffer_of(50, &mut long);
 }
 
 // What is read with one byte changed.
@@ -295,37 +252,82 @@ fn show_changed(bytes: &mut [u8], at: usize, value: u8) {
 }
 
 // The record of F with one byte changed.
-fn damaged(name: &[u8], at: usize, value: u8) {
+fn damaged(at: usize, value: u8) {
     let mut buf = [0u8; 44];
     record::write_record(f_disk(), f_points(), &mut buf);
-    io::write_all(1, name);
+    io::write_all(1, b"byte ");
+    io::print_decimal(1, at as u64);
     show_changed(&mut buf, at, value);
     end_line();
 }
 
+// The new bytes of the damaged records, by their places; what each damages stands in expected.py.
+const PLACES: [usize; 22] = [
+    0,
+    0,
+    6,
+    6,
+    8,
+    14,
+    15,
+    23,
+    20,
+    28,
+    31,
+    33,
+    32,
+    34,
+    37,
+    37,
+    38,
+    38,
+    40,
+    41,
+    42,
+    42,
+];
+
+const BYTES: [u8; 22] = [
+    0,
+    128,
+    24,
+    22,
+    255,
+    18,
+    6,
+    0,
+    1,
+    2,
+    170,
+    3,
+    128,
+    3,
+    5,
+    0,
+    3,
+    255,
+    4,
+    1,
+    255,
+    128,
+];
+
 fn damages() {
-    damaged(b"nothing", 0, 0);
-    damaged(b"X negative", 0, 0x80);
-    damaged(b"X beyond the box", 6, 0x18);
-    damaged(b"X within the box", 6, 0x17);
-    damaged(b"Y negative", 8, 0xff);
-    damaged(b"Y beyond the box", 14, 0x12);
-    damaged(b"Y divisible", 15, 6);
-    damaged(b"E zero", 23, 0);
-    damaged(b"E too large", 20, 1);
-    damaged(b"S too large", 28, 2);
-    damaged(b"S another", 31, 0xaa);
-    damaged(b"first x beyond the second", 33, 3);
-    damaged(b"first x negative", 32, 0x80);
-    damaged(b"first y beyond the box", 34, 3);
-    damaged(b"second x beyond the third", 37, 5);
-    damaged(b"second x as the first", 37, 0);
-    damaged(b"second y beyond the box", 38, 3);
-    damaged(b"second y negative", 38, 0xff);
-    damaged(b"third x beyond the box", 40, 4);
-    damaged(b"third x before the second", 41, 1);
-    damaged(b"third y negative", 42, 0xff);
-    damaged(b"third y least", 42, 0x80);
+    let mut k: usize = 0;
+    while k < 22 {
+        damaged(PLACES[k], BYTES[k]);
+        k += 1;
+    }
+}
+
+// F's record made a, b, c with b's x as a's, and then a, a, c: only the last point may be repeated.
+fn repeated() {
+    let mut buf = [0u8; 44];
+    record::write_record(f_disk(), f_points(), &mut buf);
+    io::write_all(1, b"repeated");
+    show_changed(&mut buf, 37, 0);
+    show_changed(&mut buf, 39, 0);
+    end_line();
 }
 
 // What is read in the first n bytes.
@@ -348,6 +350,14 @@ fn lengths() {
     show_front(&long, 50);
 }
 
+fn on_foot(x: i64, e: u64, s: u64) -> Disk {
+    Disk { x, y: 0, e, s }
+}
+
+fn origin() -> SupportSet {
+    SupportSet::One(Point { x: 0, y: 0 })
+}
+
 // The radii of S at r²E² and beside it.
 fn squares(x: i64, e: u64, r: u64) {
     if e < 1000 {
@@ -355,10 +365,10 @@ fn squares(x: i64, e: u64, r: u64) {
             let s = r * e * (r * e);
             io::write_all(1, b"square");
             if 0 < s {
-                show_radius(disk(x, 0, e, s - 1), one(0, 0));
+                show_radius(on_foot(x, e, s - 1), origin());
             }
-            show_radius(disk(x, 0, e, s), one(0, 0));
-            show_radius(disk(x, 0, e, s + 1), one(0, 0));
+            show_radius(on_foot(x, e, s), origin());
+            show_radius(on_foot(x, e, s + 1), origin());
             end_line();
         }
     }
@@ -375,12 +385,10 @@ fn radii() {
 }
 
 fn main() {
-    letters();
-    edges();
+    cases();
     buffers();
-    broken_disks();
-    broken_points();
     damages();
+    repeated();
     lengths();
     radii();
 }

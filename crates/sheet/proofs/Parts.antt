@@ -18,33 +18,26 @@ use borrow.Author.Tests.{le-leb, leb-true, leb-false, ltb-false, not-false}
 use lib.Dec.{leb, ltb}
 use lib.ListN.{length, take, drop, length-drop}
 use lib.Seq.{length-take-le}
+use Rattle.integers.specs.Between.{first, rest}
 use Rattle.answers.specs.Outcome.{Outcome, given, refused, refuseIf}
 use Rattle.sheet.specs.Sheet.{Place, number, count, directoryEnd, pair, pairs, follow, glyphOf, pickList, partOf}
 
 -- ---- the rule of the pairs
 
-and-first : (a b : Bool) → a && b ≡ true → a ≡ true
-and-first true b h = refl
-and-first false b h = h
-
-and-rest : (a b : Bool) → a && b ≡ true → b ≡ true
-and-rest true b h = h
-and-rest false b h = absurd (true≢false (sym h))
-
 module _ (end l : ℕ) (p : Place) (ps : List Place) (h : follow end l (p ∷ ps) ≡ true) where
   pub follow-start : end ≤ p .start
   unfolding follow
-  follow-start = leb-true end (p .start) (and-first (leb end (p .start)) (leb (p .start + p .len) l && follow (p .start + p .len) l ps) h)
+  follow-start = leb-true end (p .start) (first (leb end (p .start)) (leb (p .start + p .len) l && follow (p .start + p .len) l ps) h)
 
-  rest : leb (p .start + p .len) l && follow (p .start + p .len) l ps ≡ true
+  behind-start : leb (p .start + p .len) l && follow (p .start + p .len) l ps ≡ true
   unfolding follow
-  rest = and-rest (leb end (p .start)) (leb (p .start + p .len) l && follow (p .start + p .len) l ps) h
+  behind-start = rest (leb end (p .start)) (leb (p .start + p .len) l && follow (p .start + p .len) l ps) h
 
   pub follow-end : p .start + p .len ≤ l
-  follow-end = leb-true (p .start + p .len) l (and-first (leb (p .start + p .len) l) (follow (p .start + p .len) l ps) rest)
+  follow-end = leb-true (p .start + p .len) l (first (leb (p .start + p .len) l) (follow (p .start + p .len) l ps) behind-start)
 
   pub follow-rest : follow (p .start + p .len) l ps ≡ true
-  follow-rest = and-rest (leb (p .start + p .len) l) (follow (p .start + p .len) l ps) rest
+  follow-rest = rest (leb (p .start + p .len) l) (follow (p .start + p .len) l ps) behind-start
 
 -- pair i + j, of n pairs from pair i on
 pub follow-pair : (s : List ℕ) (l end i n j : ℕ) → follow end l (pairs s i n) ≡ true → j < n → (end ≤ pair s (i + j) .start) × (pair s (i + j) .start + pair s (i + j) .len ≤ l)

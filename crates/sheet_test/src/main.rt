@@ -88,7 +88,7 @@ fn large() {
     show(b"65536 bytes, past none", &bytes, 0);
 }
 
-// The part of three bytes, between brackets.
+// A part of three bytes, between brackets.
 fn show_part(start: usize, len: usize) {
     io::write_all(1, b"[");
     io::write_all(1, sheet::part(b"abc", start, len));

@@ -26,7 +26,7 @@ use Rattle.disks.specs.Support.{sorted, candidates, firstOf, firstSupport}
 use Rattle.disks.specs.FirstSupport.{Rising, IsSupport, IsFirstSupport, Earlier, fewer, lexical}
 use Rattle.disks.proofs.Lifted.{Lifted, value}
 use Rattle.disks.proofs.Minimal.{none-of, also, same-refl, StronglyMinimal, strong-same}
-use Rattle.disks.proofs.Base.{Multiple, multiple-value, pointDisk, point-value, pairDisk, pair-first, pair-second, positive-one, positive-two, positive-not-zero}
+use Rattle.disks.proofs.Base.{Multiple, multiple-value, point-value, pairDisk, pair-first, pair-second, positive-one, positive-two, positive-not-zero}
 use Rattle.disks.proofs.LiftedProcedure.{mtf}
 use Rattle.disks.proofs.Correct.{mtf-strong}
 use Rattle.disks.proofs.LowestTerms.{Written}

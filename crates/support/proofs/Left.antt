@@ -5,11 +5,13 @@
 --   triplesFrom i         == of the triples from point i on
 --   triplesWith p i j     == of the triples of p with two points from j on, then those from i + 1 on
 --   triplesOf p q i j k   == of the triples of p, q and a point from k on, then those of p from j + 1 on, then those from i + 1 on
---   ...-at, ...-end       : with the next point, and where there is none
---   ...-hit, ...-miss     : a set that passes is the answer, one that does not is left out
+--   pairs-at, triples-at, triples-with-at : with the next point
+--   pairs-end, pairs-with-end, triples-end, triples-with-end, triples-of-end : where there is none
+--   pair-hit, pair-miss, triple-hit, triple-miss : a set that passes is the answer, one that does not is left out
 --   ones-hit, ones-miss   : the same for single points, which all pass or all fail
+--   fit-some              : where some set passes, there is a point
 --   acuteSet T            == T is three points with acute angles; three-acute: it is the test of triples, whatever the disk
-use mathlib.Core.Path.{_≡_, refl, sym, _∙_, ap}
+use mathlib.Core.Path.{_≡_, refl, _∙_, ap}
 use mathlib.Core.Bool.{Bool, true, false}
 use mathlib.Core.List.{List, [], _∷_, _++_, List·Memᴰ·head, List·Memᴰ·tail}
 use Prim.Native.Nat.{ℕ, zero, suc, _+_, _≤_}
@@ -56,7 +58,6 @@ three-acute d Q = first-agree (fits d) acuteSet (choose 3 Q) (λ T i. fits-acute
 
 -- ---- single points
 
--- where some set passes, there is a point
 pub fit-some : (d : Disk) (n : ℕ) (l : List ℤ) → 1 ≤ length (firstFit d (firstPoints n l)) → 1 ≤ n
 unfolding firstFit choose firstOf points
 fit-some d zero l h = absurd (omega arith)

@@ -11,8 +11,8 @@
 --   s-small         : and its s
 --   decided         : two tests that follow from one another are the same
 --   eqZ-machine     : `eqZ` is the test that `==` makes
-use mathlib.Core.Path.{_≡_, refl, sym, ap, ap₂, subst, _∙_}
-use mathlib.Core.Bool.{Bool, true, false, _&&_}
+use mathlib.Core.Path.{_≡_, refl, ap, ap₂, _∙_}
+use mathlib.Core.Bool.{Bool, true, false}
 use mathlib.Core.List.{[], _∷_}
 use Prim.Native.Nat.{ℕ, _^_, _≤_}
 use native.Mathlib.Nat.{le-refl, le-trans, mul-le-mul}
@@ -35,7 +35,7 @@ use Rattle.geometry.specs.Plane.{inEmBox}
 use Rattle.geometry.proofs.Coordinates.{widened}
 use Rattle.disks.specs.Limits.{Limits}
 use Rattle.disks.proofs.Rising.{eqZ-eq, eq-eqZ}
-use Rattle.support.specs.Search.{midway, Small}
+use Rattle.support.specs.Search.{midway, Small, SmallDisk}
 
 abbrev pub wide-value : (z : ℤ) {r : ℤ} → SFits w16 z → r ≡ toZ w16 (ofZ w16 z) → Value (toZ w64 (ofZ w64 r))
 wide-value z f e = record { val = z; bound = 2 ^ 15; ok = true; is = λ t. widened z f e; below = λ t. natAbs-le z (f .sfits) }
@@ -46,8 +46,8 @@ minus-value b a f g e = v-back w64 (v-eq e (v-add (v-fits f) (v-neg (v-fits g)))
 abbrev pub stored-value : (z : ℤ) {B : ℕ} → natAbs z ≤ B → Value (toZ w64 (ofZ w64 z))
 stored-value z h = v-back w64 {z = z} (v-abs {z = z} h)
 
-pub stored-small : (z : ℤ) → natAbs z ≤ 2000000000 → natAbs (toZ w64 (ofZ w64 z)) ≤ 2000000000
-stored-small z h = at-most (stored-value z h) tt .within
+pub stored-small : (e : ℕ) (z : ℤ) → Small e z → Small e (toZ w64 (ofZ w64 z))
+stored-small e z h = record { e-most = h .e-most; c-most = at-most (stored-value z (h .c-most)) tt .within }
 
 abbrev pub offset-value :
     (v : ℤ) (e : ℕ) (c : ℤ) {r : ℤ} → SFits w16 v → natAbs c ≤ 2000000000 → natAbs (v *ℤ pos e -ℤ c) ≤ 2000000000
@@ -56,9 +56,9 @@ offset-value v e c {r} f h n q =
     v-back w64 (v-eq (q ∙ ap₂ (λ (a b : ℤ). a *ℤ pos e -ℤ b) (toZ-ofZ f) (reads-as (stored-value c h) tt)) (v-abs {z = v *ℤ pos e -ℤ c} n))
 
 pub midway-read :
-    (a b : ℤ) (e : ℕ) (c : ℤ) → SFits w16 a → SFits w16 b → SFits w64 c
-    → midway (toZ w16 (ofZ w16 a)) (toZ w16 (ofZ w16 b)) e (toZ w64 (ofZ w64 c)) ≡ midway a b e c
-midway-read a b e c f g h = ap₂ (λ (x y : ℤ). midway x y e (toZ w64 (ofZ w64 c))) (toZ-ofZ f) (toZ-ofZ g) ∙ ap (midway a b e) (toZ-ofZ h)
+    (a b : ℤ) (e : ℕ) (c : ℤ) {r : Bool} → SFits w16 a → SFits w16 b → SFits w64 c
+    → r ≡ midway (toZ w16 (ofZ w16 a)) (toZ w16 (ofZ w16 b)) e (toZ w64 (ofZ w64 c)) → r ≡ midway a b e c
+midway-read a b e c f g h q = q ∙ ap₂ (λ (x y : ℤ). midway x y e (toZ w64 (ofZ w64 c))) (toZ-ofZ f) (toZ-ofZ g) ∙ ap (midway a b e) (toZ-ofZ h)
 
 -- ---- sizes
 
@@ -74,15 +74,17 @@ centre-small lo hi e c c-low c-high e-low e-high h k = within-range {B = 2000000
     (nonneg (lo ∷ hi ∷ e ∷ c ∷ []) (le c-high ⊞ le k ⊠ e-low ⊞ nn 1000 ⊠ le e-high) (search poly depth 30) tt) .within
 
 module _ (d : Disk) (a : Limits d) where
+  x-low : pos 0 *ℤ pos (d .e) ≼ d .x
+  x-low = ≤-trans (≤-of-eq (zero-* (pos (d .e)))) (a .x-low)
+
   e-high : pos (d .e) ≼ pos 2000000
   e-high = pos-le (a .e-most)
 
-  pub limits-small : Small d
-  limits-small = record {
-    e-most = a .e-most;
-    x-most = centre-small (pos 0) (pos 1000) (pos (d .e)) (d .x) (≤-trans (≤-of-eq (zero-* (pos (d .e)))) (a .x-low)) (a .x-high) (nn-nat (d .e)) e-high (record { le = tt }) (record { le = tt });
-    y-most = centre-small (negsuc 249) (pos 750) (pos (d .e)) (d .y) (a .y-low) (a .y-high) (nn-nat (d .e)) e-high (record { le = tt }) (record { le = tt });
-  }
+  pub limits-small : SmallDisk d
+  limits-small = (
+    record { e-most = a .e-most; c-most = centre-small (pos 0) (pos 1000) (pos (d .e)) (d .x) x-low (a .x-high) (nn-nat (d .e)) e-high (record { le = tt }) (record { le = tt }) },
+    record { e-most = a .e-most; c-most = centre-small (negsuc 249) (pos 750) (pos (d .e)) (d .y) (a .y-low) (a .y-high) (nn-nat (d .e)) e-high (record { le = tt }) (record { le = tt }) },
+  )
 
   pub s-small : d .s ≤ 2000000000000000000
   s-small = le-trans (a .s-most) (mul-le-mul (le-refl 500000) (mul-le-mul (a .e-most) (a .e-most)))
@@ -99,7 +101,7 @@ module _ (d : Disk) (a : Limits d) where
     pub near-x : natAbs (p .x *ℤ pos (d .e) -ℤ d .x) ≤ 2000000000
     near-x = near (pos 0) (p .x) (pos (d .e)) (d .x)
         (record { le = and-left (leZ (pos 0) (p .x)) (leZ (p .x) (pos 1000)) in-x }) (record { le = and-right (leZ (pos 0) (p .x)) (leZ (p .x) (pos 1000)) in-x })
-        (≤-trans (≤-of-eq (zero-* (pos (d .e)))) (a .x-low)) (a .x-high) (nn-nat (d .e)) e-high
+        x-low (a .x-high) (nn-nat (d .e)) e-high
 
     pub near-y : natAbs (p .y *ℤ pos (d .e) -ℤ d .y) ≤ 2000000000
     near-y = near (negsuc 249) (p .y) (pos (d .e)) (d .y)

@@ -1,16 +1,16 @@
 -- The place of a point in a rising list, and the list with the point in its place.
 --
---   place-here, place-there, place-later : the place, by the first point of the list
---   Placed p Q j k       == p goes in at k in a list Q whose first point has the number j
---   placed               : where the place is At k, the point goes in there
---   there                : where it is There, the list stays
---   insert-length        : the list grows by one point at most
+--   place-here, place-there, place-later, place-end : the place, by the first point of the list, and in the empty list
+--   Placed p Q j k                 == p goes in at k, in a list Q whose first point has the number j
+--   placed                         : where the place is At k, the point goes in there
+--   there                          : where it is There, the list stays
+--   placed-is, placed-length       : from the number 0 on: the list with the point, which has one more
 use mathlib.Core.Path.{_≡_, refl, ap, _∙_}
 use mathlib.Core.Bool.{Bool, true, false}
-use mathlib.Core.List.{List, [], _∷_, _++_}
+use mathlib.Core.List.{List, [], _∷_}
 use Prim.Native.Nat.{ℕ, suc, _+_, _-_, _≤_}
 use native.Mathlib.Omega.{arith}
-use lib.ListN.{length, take, drop, length-append, length-take, length-drop}
+use lib.ListN.{length, length-append, length-take, length-drop}
 use Rattle.geometry.specs.declared.Point.{Point}
 use Rattle.geometry.specs.Order.{before}
 use Rattle.disks.specs.Support.{insert}

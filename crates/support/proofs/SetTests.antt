@@ -4,7 +4,7 @@
 --   one-strong, strong-one   : of points on the boundary, one is a support set where and only where the radius is 0
 --   two-strong, strong-two   : two where and only where they are opposite
 --   three-strong, acute-three : three with acute angles are one; the angles, as a test
-use mathlib.Core.Path.{_≡_, sym, _∙_, ap, ap₂, subst}
+use mathlib.Core.Path.{_≡_, sym, _∙_, ap, subst}
 use mathlib.Core.Bool.{Bool, _&&_}
 use mathlib.Core.List.{[], _∷_}
 use Prim.Native.Nat.{ℕ}
@@ -17,7 +17,7 @@ use Rattle.integers.specs.Ring.{ring, poly, linear, eqn, _&_}
 use Rattle.integers.specs.Order.{≡-cancel, sum-squares-zero}
 use Rattle.geometry.specs.declared.Point.{Point}
 use Rattle.geometry.specs.declared.Disk.{Disk}
-use Rattle.geometry.specs.Plane.{distance, onBoundary}
+use Rattle.geometry.specs.Plane.{distance}
 use Rattle.disks.proofs.Lifted.{Lifted, value}
 use Rattle.disks.proofs.Minimal.{StronglyMinimal}
 use Rattle.disks.proofs.Base.{positive-not-zero}

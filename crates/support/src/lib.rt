@@ -6,30 +6,30 @@ ghost use mathlib.Core.Bool.{true};
 ghost use mathlib.Core.Path.{_≡_};
 ghost use Prim.Native.Nat.{_+_, _*_, _≤_};
 ghost use lib.Dec.{T};
-ghost use lib.IntN.{pos, natAbs, _-ℤ_, _*ℤ_};
+ghost use lib.IntN.{pos, _-ℤ_, _*ℤ_};
 ghost use lib.ListN.{length};
 ghost use Rattle.geometry.specs.Plane.{inEmBox, allInEmBox, members};
 ghost use Rattle.geometry.specs.Points.{points, firstPoints};
 ghost use Rattle.disks.specs.Limits.{Limits};
 ghost use Rattle.disks.specs.Support.{insert, sorted, firstSupport};
-ghost use Rattle.support.specs.Search.{onBoundaryTest, boundaryOf, midway, opposite, acuteAt, acute, firstFit, Small, Asked};
+ghost use Rattle.support.specs.Search.{onBoundaryTest, boundaryOf, midway, opposite, acuteAt, acute, firstFit, Small, SmallDisk, Asked};
 ghost use Rattle.support.specs.Place.{placeOf, putAt, insertedAt};
 
 // Where a point goes in a rising list: at a place, or nowhere since it is there.
-pub enum Place {
+enum Place {
     At(usize),
     There,
 }
 
 // v·e − c
 fn offset(v: i16, e: u64, c: i64) -> i64
-    requires { ⌜ (e ≤ 2000000) × (natAbs c ≤ 2000000000) ⌝ }
+    requires { ⌜ Small e c ⌝ }
     ensures { λ r. ⌜ r ≡ v *ℤ pos e -ℤ c ⌝ }
 {
     geometry::wide(v) * (e as i64) - c
 }
 
-// Whether p is on the disk's boundary.
+// Whether p is on the disk's boundary (01: on the rim).
 fn on_boundary(disk: Disk, p: Point) -> bool
     requires { ⌜ Limits disk × T (inEmBox p) ⌝ }
     ensures { λ r. ⌜ r ≡ onBoundaryTest disk p ⌝ }
@@ -41,7 +41,7 @@ fn on_boundary(disk: Disk, p: Point) -> bool
 
 // (a + b)e = 2c
 fn is_midway(a: i16, b: i16, e: u64, c: i64) -> bool
-    requires { ⌜ (e ≤ 2000000) × (natAbs c ≤ 2000000000) ⌝ }
+    requires { ⌜ Small e c ⌝ }
     ensures { λ r. ⌜ r ≡ midway a b e c ⌝ }
 {
     (geometry::wide(a) + geometry::wide(b)) * (e as i64) == 2 * c
@@ -49,7 +49,7 @@ fn is_midway(a: i16, b: i16, e: u64, c: i64) -> bool
 
 // Whether p and q are the ends of a diameter of the disk.
 fn is_opposite(disk: Disk, p: Point, q: Point) -> bool
-    requires { ⌜ Small disk ⌝ }
+    requires { ⌜ SmallDisk disk ⌝ }
     ensures { λ r. ⌜ r ≡ opposite disk p q ⌝ }
 {
     is_midway(p.x, q.x, disk.e, disk.x) && is_midway(p.y, q.y, disk.e, disk.y)
@@ -139,7 +139,8 @@ fn insert_point(list: &mut [i16], n: usize, p: Point) -> usize
     }
 }
 
-// Writes the points of the list on the disk's boundary to `out`, rising and each once, and returns how many there are.
+// Writes the points of the list on the disk's boundary to `out`, rising and each once, and returns how many there are. They are taken from
+// the last on, as `sorted` has it.
 fn collect(list: &[i16], disk: Disk, out: &mut [i16]) -> usize
     requires { ⌜ Limits disk × (allInEmBox (points (now list)) ≡ true) × (length (now list) ≤ length (now out)) ⌝ }
     ensures size { λ r. ⌜ r ≡ length (sorted (boundaryOf disk (points (now (list .entry))))) ⌝ }
@@ -159,7 +160,7 @@ fn collect(list: &[i16], disk: Disk, out: &mut [i16]) -> usize
 
 // The first set of the first n points of the list that passes its test: a single one, then pairs, then triples.
 fn search(list: &[i16], n: usize, disk: Disk) -> SupportSet
-    requires { ⌜ (2 * n ≤ length (now list)) × Small disk × (1 ≤ length (firstFit disk (firstPoints n (now list)))) ⌝ }
+    requires { ⌜ (2 * n ≤ length (now list)) × SmallDisk disk × (1 ≤ length (firstFit disk (firstPoints n (now list)))) ⌝ }
     ensures { λ r. ⌜ members r ≡ firstFit disk (firstPoints n (now (list .entry))) ⌝ }
 {
     let mut found = SupportSet::One(geometry::point_at(list, 0));
@@ -195,7 +196,7 @@ fn search(list: &[i16], n: usize, disk: Disk) -> SupportSet
     found
 }
 
-// The first support set of the list, whose smallest disk is given.
+// The first support set of the list (01: the first rim set), whose smallest disk is given.
 pub fn first_support(list: &[i16], disk: Disk) -> SupportSet
     requires { ⌜ Asked (now list) disk ⌝ }
     ensures { λ r. ⌜ members r ≡ firstSupport (points (now (list .entry))) ⌝ }

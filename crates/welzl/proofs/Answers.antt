@@ -1,18 +1,20 @@
 -- The run on a whole list, from no point fixed, in the terms of the definitions.
 --
---   all-boxed       : of a list that passes the test, each point lies in the em box
---   kept-answer     : the disk that is kept at the end is, in lowest terms, `diskOf`, and its numbers are small
---   ran-whole       : tests and list are `testsOf` and `orderOf`
+--   Answered P d              == d in lowest terms is `diskOf P`, and no step of writing it overflows
+--   Whole l after d tests     == d is the lifted disk of l's points, tests and `after` are `testsOf` and `orderOf`
+--   all-boxed                 : of a list that passes the test, each point lies in the em box
+--   kept-answer               : the disk that is kept at the end is the answer
+--   ran-whole                 : the promise `Ran`, of a whole list with no point fixed, is `Whole`
 use mathlib.Core.Path.{_≡_, refl, sym, ap, subst, _∙_}
 use mathlib.Core.Logic.{_⊎_, inl, inr}
 use mathlib.Core.Bool.{Bool, true}
-use mathlib.Core.List.{List, [], _∷_, _++_, append-nil, List·Memᴰ, List·Memᴰ·cases-cons, List·Memᴰ·not-nil}
-use Prim.Native.Nat.{ℕ, suc, _+_, _*_, _≤_, _<_}
-use native.Mathlib.Nat.{mul-le-mul, le-refl}
+use mathlib.Core.List.{List, [], _∷_, append-nil, List·Memᴰ, List·Memᴰ·cases-cons, List·Memᴰ·not-nil}
+use Prim.Native.Nat.{ℕ, _+_, _*_, _≤_, _<_}
+use native.Mathlib.Nat.{mul-le-mul}
 use native.Mathlib.Decide.{decLe}
 use native.Mathlib.Omega.{arith}
 use lib.Dec.{T}
-use lib.IntN.{ℤ, pos, negsuc, natAbs, _+ℤ_, _-ℤ_, _*ℤ_}
+use lib.IntN.{ℤ, pos, negsuc, natAbs, _+ℤ_, _*ℤ_}
 use lib.ListN.{length, drop, drop-of-length-le}
 use lib.Signed.{_≤ℤ_, _<ℤ_}
 use Rattle.integers.specs.Between.{first, rest}
@@ -21,13 +23,13 @@ use Rattle.integers.specs.Order.{le-pos, ≤-of-<, nonneg, nonneg-by, le, sq, n
 use Rattle.integers.specs.Ring.{poly}
 use Rattle.geometry.specs.declared.Point.{Point}
 use Rattle.geometry.specs.Plane.{inEmBox, allInEmBox}
-use Rattle.geometry.specs.Points.{points, flat, firstPoints}
+use Rattle.geometry.specs.Points.{points, flat}
 use Rattle.geometry.proofs.PointLists.{firstPoints-all}
 use Rattle.disks.specs.Procedure.{lowestTerms, diskOf, testsOf, orderOf}
 use Rattle.disks.proofs.Lifted.{Lifted, squaredRadius, noDisk}
 use Rattle.disks.proofs.LiftedProcedure.{mtf}
 use Rattle.disks.proofs.Correct.{mtf-strong}
-use Rattle.disks.proofs.LowestTerms.{lowered, positive-is}
+use Rattle.disks.proofs.LowestTerms.{lowered}
 use Rattle.disks.proofs.Base.{positive-two}
 use Rattle.disks.proofs.Limits.{box-limits}
 use Rattle.disks.proofs.Answer.{in-box, weight}

@@ -5,7 +5,7 @@
 --   nothing                       == the empty disk: every point of the em box is outside it
 --   pointAbout, diameterAbout     == the disks of one point and of a diameter
 --   circleAbout q u v             == the circle through q, q + u and q + v
---   Near p, Small d               == numbers with which no step of the test overflows
+--   Coordinates x y, Differences x y, Near p, Small d == numbers with which no step of the test overflows
 --   AnswerNumbers e q g           == numbers with which no step of writing the disk overflows
 --   Keeps d F                     == d is F, and small
 use mathlib.Core.Path.{_≡_}
@@ -50,6 +50,13 @@ circleAbout qx qy ux uy vx vy =
     let u = ux *ℤ ux +ℤ uy *ℤ uy in
     let v = vx *ℤ vx +ℤ vy *ℤ vy in
     turnedBy (ltZ e (pos 0)) e qx qy (u *ℤ vy -ℤ v *ℤ uy) (v *ℤ ux -ℤ u *ℤ vx)
+
+-- two coordinates of the em box; two differences of such
+abbrev pub Coordinates : ℤ → ℤ → Type 0
+Coordinates x y = Within 1000 x × Within 1000 y
+
+abbrev pub Differences : ℤ → ℤ → Type 0
+Differences x y = Within 2000 x × Within 2000 y
 
 pub record Near (p : Point) : Type 0 where
   pub x-near : Within 1000 (p .x)

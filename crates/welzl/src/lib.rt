@@ -5,13 +5,12 @@ ghost use mathlib.Core.Path.{_≡_};
 ghost use Prim.Native.Nat.{_+_, _*_, _≤_, _<_};
 ghost use lib.IntN.{natAbs, _+ℤ_, _-ℤ_, _*ℤ_};
 ghost use lib.ListN.{length};
-ghost use Rattle.integers.specs.Bounds.{Within};
 ghost use Rattle.geometry.specs.Points.{points, flat};
 ghost use Rattle.geometry.proofs.PointLists.{toFront};
 ghost use Rattle.disks.specs.Procedure.{lowestTerms, diskOf, testsOf, orderOf};
 ghost use Rattle.disks.proofs.LiftedProcedure.{rimDisk};
 ghost use Rattle.welzl.specs.Boundary.{members, roomIn, added};
-ghost use Rattle.welzl.specs.Relative.{Near, SmallNumbers, Small, AnswerNumbers, beyond, isOutside, Keeps, diameterAbout, circleAbout};
+ghost use Rattle.welzl.specs.Relative.{Coordinates, Differences, Near, SmallNumbers, Small, AnswerNumbers, beyond, isOutside, Keeps, diameterAbout, circleAbout};
 ghost use Rattle.welzl.specs.Ran.{Boxed, Given, Ran, Accepted};
 
 // The set R of points fixed on the boundary, the one added last first.
@@ -31,6 +30,7 @@ pub struct RelativeDisk {
     pub gy: i64,
 }
 
+// What a run gives, before its disk is written in lowest terms.
 pub struct RelativeRun {
     pub disk: RelativeDisk,
     pub tests: u64,
@@ -43,7 +43,7 @@ pub struct Run {
 }
 
 // How many more points may be fixed: 3 - |R|.
-pub fn room(fixed: Boundary) -> usize
+fn room(fixed: Boundary) -> usize
     ensures { λ r. ⌜ r ≡ roomIn fixed ⌝ }
 {
     match fixed {
@@ -55,7 +55,7 @@ pub fn room(fixed: Boundary) -> usize
 }
 
 // R with p added.
-pub fn add_point(fixed: Boundary, p: Point) -> Boundary
+fn add_point(fixed: Boundary, p: Point) -> Boundary
     ensures { λ r. ⌜ r ≡ added fixed p ⌝ }
 {
     match fixed {
@@ -68,7 +68,7 @@ pub fn add_point(fixed: Boundary, p: Point) -> Boundary
 
 // |p - q|² e > 2 (p - q)·g, for p = (x, y)
 fn is_beyond(e: i64, qx: i64, qy: i64, gx: i64, gy: i64, x: i64, y: i64) -> bool
-    requires { ⌜ SmallNumbers e qx qy gx gy ⌝ ∗ ⌜ Within 1000 x ⌝ ∗ ⌜ Within 1000 y ⌝ }
+    requires { ⌜ SmallNumbers e qx qy gx gy ⌝ ∗ ⌜ Coordinates x y ⌝ }
     ensures { λ r. ⌜ r ≡ beyond e qx qy gx gy x y ⌝ }
 {
     let dx = x - qx;
@@ -77,7 +77,7 @@ fn is_beyond(e: i64, qx: i64, qy: i64, gx: i64, gy: i64, x: i64, y: i64) -> bool
 }
 
 // Whether p is outside d.
-pub fn is_outside(d: RelativeDisk, p: Point) -> bool
+fn is_outside(d: RelativeDisk, p: Point) -> bool
     requires { ⌜ Small d ⌝ ∗ ⌜ Near p ⌝ }
     ensures { λ r. ⌜ r ≡ isOutside d p ⌝ }
 {
@@ -94,7 +94,7 @@ pub fn is_outside(d: RelativeDisk, p: Point) -> bool
 
 // The disk whose diameter is from (ax, ay) to (bx, by).
 fn diameter(ax: i64, ay: i64, bx: i64, by: i64) -> RelativeDisk
-    requires { ⌜ (Within 1000 ax) × (Within 1000 ay) ⌝ ∗ ⌜ (Within 1000 bx) × (Within 1000 by) ⌝ }
+    requires { ⌜ Coordinates ax ay ⌝ ∗ ⌜ Coordinates bx by ⌝ }
     ensures { λ r. ⌜ r ≡ diameterAbout ax ay bx by ⌝ }
 {
     let gx = bx - ax;
@@ -110,7 +110,7 @@ fn diameter(ax: i64, ay: i64, bx: i64, by: i64) -> RelativeDisk
 
 // The circle through q, q + u and q + v.
 fn circle_about(qx: i64, qy: i64, ux: i64, uy: i64, vx: i64, vy: i64) -> RelativeDisk
-    requires { ⌜ (Within 1000 qx) × (Within 1000 qy) ⌝ ∗ ⌜ (Within 2000 ux) × (Within 2000 uy) ⌝ ∗ ⌜ (Within 2000 vx) × (Within 2000 vy) ⌝ }
+    requires { ⌜ Coordinates qx qy ⌝ ∗ ⌜ Differences ux uy ⌝ ∗ ⌜ Differences vx vy ⌝ }
     ensures { λ r. ⌜ r ≡ circleAbout qx qy ux uy vx vy ⌝ }
 {
     let e = 2 * (ux * vy - uy * vx);
@@ -132,14 +132,14 @@ fn circle_about(qx: i64, qy: i64, ux: i64, uy: i64, vx: i64, vy: i64) -> Relativ
 
 // The circle through (ax, ay), (bx, by) and (cx, cy).
 fn circle(ax: i64, ay: i64, bx: i64, by: i64, cx: i64, cy: i64) -> RelativeDisk
-    requires { ⌜ (Within 1000 ax) × (Within 1000 ay) ⌝ ∗ ⌜ (Within 1000 bx) × (Within 1000 by) ⌝ ∗ ⌜ (Within 1000 cx) × (Within 1000 cy) ⌝ }
+    requires { ⌜ Coordinates ax ay ⌝ ∗ ⌜ Coordinates bx by ⌝ ∗ ⌜ Coordinates cx cy ⌝ }
     ensures { λ r. ⌜ r ≡ circleAbout ax ay (bx -ℤ ax) (by -ℤ ay) (cx -ℤ ax) (cy -ℤ ay) ⌝ }
 {
     circle_about(ax, ay, bx - ax, by - ay, cx - ax, cy - ay)
 }
 
 // The smallest disk with R on its boundary.
-pub fn boundary_disk(fixed: Boundary) -> RelativeDisk
+fn boundary_disk(fixed: Boundary) -> RelativeDisk
     requires { ⌜ Boxed (members fixed) ⌝ }
     ensures { λ r. ⌜ Keeps r (rimDisk (members fixed)) ⌝ }
 {
@@ -176,7 +176,7 @@ pub fn boundary_disk(fixed: Boundary) -> RelativeDisk
 }
 
 // Point i to the front; those before it go back by one place.
-pub fn move_to_front(list: &mut [i16], i: usize)
+fn move_to_front(list: &mut [i16], i: usize)
     requires { ⌜ 2 * i + 2 ≤ length (now list) ⌝ }
     ensures { λ _. ⌜ now (list .exit) ≡ toFront (now (list .entry)) i ⌝ }
 {
@@ -192,7 +192,8 @@ pub fn move_to_front(list: &mut [i16], i: usize)
     list[1] = y;
 }
 
-// B_MTFDISK on the first n points of the list, with R fixed on the boundary. Each of them is tested once here, and `inner` counts the tests of the calls.
+// B_MTFDISK on the first n points of the list, with R fixed on the boundary.
+// Each point is tested once here, so that n and the tests of the calls make the count.
 pub fn mtf(list: &mut [i16], n: usize, fixed: Boundary) -> RelativeRun
     requires { ⌜ Given fixed n (now list) ⌝ }
     ensures { λ r. ⌜ Ran fixed n (now (list .entry)) (now (list .exit)) (r .disk) (r .tests) ⌝ }
@@ -211,10 +212,8 @@ pub fn mtf(list: &mut [i16], n: usize, fixed: Boundary) -> RelativeRun
             move_to_front(list, i);
         }
     }
-    RelativeRun {
-        disk,
-        tests: inner + n as u64,
-    }
+    let tests = inner + n as u64;
+    RelativeRun { disk, tests }
 }
 
 // Centre (x/e, y/e) and squared radius s/e², without a common divisor of x, y and e.
@@ -245,7 +244,7 @@ fn written(e: i64, qx: i64, qy: i64, gx: i64, gy: i64) -> Disk
     reduced(x, y, integers::magnitude(e), integers::magnitude(s))
 }
 
-// The procedure on the whole list, with no point fixed.
+// The procedure on the whole list, with no point fixed: the smallest disk, the tests, and the list as the procedure leaves it.
 pub fn smallest(list: &mut [i16]) -> Run
     requires { ⌜ Accepted (now list) ⌝ }
     ensures disk { λ r. ⌜ r .disk ≡ diskOf (points (now (list .entry))) ⌝ }

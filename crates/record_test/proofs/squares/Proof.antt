@@ -26,37 +26,37 @@ slice-aggregate-write-all c = search needs
 write-all-requires : tie.Need-write-all-requires
 write-all-requires c κs = search needs
 
-sub-disk : tie.Need-sub-disk
-sub-disk c = search needs
+sub-on-foot : tie.Need-sub-on-foot
+sub-on-foot c = search needs
 
-disk-requires : tie.Need-disk-requires
-disk-requires c κs = search needs
+on-foot-requires : tie.Need-on-foot-requires
+on-foot-requires c κs = search needs
 
-one-requires : tie.Need-one-requires
-one-requires c κs = search needs
+origin-requires : tie.Need-origin-requires
+origin-requires c κs = search needs
 
 show-radius-requires : tie.Need-show-radius-requires
 show-radius-requires c κs = search needs
 
-disk-requires-2 : tie.Need-disk-requires-2
-disk-requires-2 c κs = search needs
+on-foot-requires-2 : tie.Need-on-foot-requires-2
+on-foot-requires-2 c κs = search needs
 
-one-requires-2 : tie.Need-one-requires-2
-one-requires-2 c κs = search needs
+origin-requires-2 : tie.Need-origin-requires-2
+origin-requires-2 c κs = search needs
 
 show-radius-requires-2 : tie.Need-show-radius-requires-2
 show-radius-requires-2 c κs = search needs
 
-add-disk : tie.Need-add-disk
-add-disk c =
+add-on-foot : tie.Need-add-on-foot
+add-on-foot c =
     let then2 = c .before .before .before .before .before .before in
     let h = product (then2 .if2 .taken) (then2 .before .if1 .taken) in omega (arith, mul-le-mul h h)
 
-disk-requires-3 : tie.Need-disk-requires-3
-disk-requires-3 c κs = search needs
+on-foot-requires-3 : tie.Need-on-foot-requires-3
+on-foot-requires-3 c κs = search needs
 
-one-requires-3 : tie.Need-one-requires-3
-one-requires-3 c κs = search needs
+origin-requires-3 : tie.Need-origin-requires-3
+origin-requires-3 c κs = search needs
 
 show-radius-requires-3 : tie.Need-show-radius-requires-3
 show-radius-requires-3 c κs = search needs
@@ -82,16 +82,16 @@ squares-spec =
     mul-s-3
     slice-aggregate-write-all
     write-all-requires
-    sub-disk
-    disk-requires
-    one-requires
+    sub-on-foot
+    on-foot-requires
+    origin-requires
     show-radius-requires
-    disk-requires-2
-    one-requires-2
+    on-foot-requires-2
+    origin-requires-2
     show-radius-requires-2
-    add-disk
-    disk-requires-3
-    one-requires-3
+    add-on-foot
+    on-foot-requires-3
+    origin-requires-3
     show-radius-requires-3
     end-line-requires
     returns

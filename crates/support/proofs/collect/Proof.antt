@@ -1,5 +1,4 @@
 -- `support::collect` meets its contract. The invariant: the first m points of `out` are the boundary points of the list from point i on, sorted.
-use borrow.Author.Needs.{needs}
 use mathlib.Core.Path.{_≡_, refl, sym, ap, subst, _∙_}
 use mathlib.Core.Bool.{true, false}
 use mathlib.Core.List.{List, [], _∷_}

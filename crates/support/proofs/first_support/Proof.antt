@@ -10,7 +10,6 @@ use lib.ListN.{length, length-replicate}
 use Rattle.geometry.specs.declared.Point.{Point}
 use Rattle.geometry.specs.Points.{points}
 use Rattle.disks.specs.Limits.{Limits}
-use Rattle.disks.specs.Support.{sorted}
 use Rattle.disks.proofs.Rising.{sorted-length}
 use Rattle.support.specs.Search.{boundaryOf, firstFit}
 use Rattle.support.proofs.Numbers.{limits-small}

@@ -1,14 +1,12 @@
 -- `support::insert_at` meets its contract. The invariant: the first i points are in place, `held` comes next, and the rest is as it was.
-use borrow.Author.Needs.{needs}
-use mathlib.Core.Path.{_≡_, refl, sym, ap, _∙_}
+use mathlib.Core.Path.{_≡_, refl, ap, _∙_}
 use mathlib.Core.List.{List, [], _∷_, _++_, append-assoc}
-use Prim.Native.Nat.{ℕ, _+_, _-_, _*_, _≤_}
+use Prim.Native.Nat.{_+_, _-_, _*_, _≤_}
 use native.Mathlib.Omega.{arith}
-use lib.IntN.{ℤ}
-use lib.ListN.{length, take, drop}
+use lib.ListN.{length, drop}
 use Rattle.geometry.specs.declared.Point.{Point}
 use Rattle.geometry.specs.Points.{pointAt, firstPoints}
-use Rattle.support.specs.Place.{putAt, insertedAt}
+use Rattle.support.specs.Place.{insertedAt}
 use Rattle.support.proofs.PointRows.{firstPoints-from, firstPoints-end, firstPoints-take, pointAt-drop, drop-next, firstPoints-put, drop-put, length-put}
 use Rattle.support.proofs.insert_at.Statement.{statement}
 use Rattle.support.proofs.insert_at.Tie as tie

@@ -1,7 +1,6 @@
 -- `support::is_acute_at` meets its contract: nothing wraps, so the machine tests the number of `acuteAt`.
 use borrow.Author.Needs.{needs}
 use lib.IntN.{_+ℤ_, _*ℤ_}
-use lib.Signed.{ltZ}
 use mathlib.Core.Path.{refl}
 use mir.Syntax.{w64}
 use mir.Val.{toZ, ofZ}

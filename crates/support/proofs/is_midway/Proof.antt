@@ -16,10 +16,10 @@ sum c =
     v-add (wide-value (s .args .a) (s .fits .a) (c .before .wide .ensures)) (wide-value (s .args .b) (s .fits .b) (c .wide2 .ensures))
 
 abbrev scaled : (c : tie.After-wide2) → Value (toZ w64 (ofZ w64 (toZ w64 (ofZ w64 (c .before .wide .result)) +ℤ toZ w64 (ofZ w64 (c .wide2 .result)))) *ℤ toZ w64 (c .before .before .args .e))
-scaled c = v-mul (v-back w64 (sum c)) (v-nat w64 (c .before .before .args .e) (c .before .before .pre .0))
+scaled c = v-mul (v-back w64 (sum c)) (v-nat w64 (c .before .before .args .e) (c .before .before .pre .e-most))
 
 abbrev twice : (c : tie.After-wide2) → Value (pos 2 *ℤ toZ w64 (ofZ w64 (c .before .before .args .c)))
-twice c = v-mul (v-lit {n = 2} refl) (stored-value (c .before .before .args .c) (c .before .before .pre .1))
+twice c = v-mul (v-lit {n = 2} refl) (stored-value (c .before .before .args .c) (c .before .before .pre .c-most))
 
 wide-requires : tie.Need-wide-requires
 wide-requires c κs = search needs

@@ -9,10 +9,10 @@ use Rattle.support.proofs.offset.Statement.{statement}
 use Rattle.support.proofs.offset.Tie as tie
 
 abbrev scaled : (c : tie.After-wide) → Value (toZ w64 (ofZ w64 (c .wide .result)) *ℤ toZ w64 (c .before .args .e))
-scaled c = v-mul (wide-value (c .before .args .v) (c .before .fits .v) (c .wide .ensures)) (v-nat w64 (c .before .args .e) (c .before .pre .0))
+scaled c = v-mul (wide-value (c .before .args .v) (c .before .fits .v) (c .wide .ensures)) (v-nat w64 (c .before .args .e) (c .before .pre .e-most))
 
 abbrev difference : (c : tie.After-wide) → Value (toZ w64 (ofZ w64 (toZ w64 (ofZ w64 (c .wide .result)) *ℤ toZ w64 (c .before .args .e))) -ℤ toZ w64 (ofZ w64 (c .before .args .c)))
-difference c = v-add (v-back w64 (scaled c)) (v-neg (stored-value (c .before .args .c) (c .before .pre .1)))
+difference c = v-add (v-back w64 (scaled c)) (v-neg (stored-value (c .before .args .c) (c .before .pre .c-most)))
 
 wide-requires : tie.Need-wide-requires
 wide-requires c κs = search needs

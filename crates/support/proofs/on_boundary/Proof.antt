@@ -12,13 +12,13 @@ use Rattle.support.proofs.on_boundary.Tie as tie
 abbrev along-x : (c : tie.After-offset) → Value (toZ w64 (ofZ w64 (c .offset .result)))
 along-x c =
     let s = c .before .before .before in
-    offset-value (s .args .p .x) (s .args .disk .e) (s .args .disk .x) (record { sfits = c .before .before .struct-told .given .0 .1 }) (limits-small (s .args .disk) (s .pre .0) .x-most)
+    offset-value (s .args .p .x) (s .args .disk .e) (s .args .disk .x) (record { sfits = c .before .before .struct-told .given .0 .1 }) (limits-small (s .args .disk) (s .pre .0) .0 .c-most)
     (near-x (s .args .disk) (s .pre .0) (s .args .p) (s .pre .1)) (c .offset .ensures)
 
 abbrev along-y : (c : tie.After-offset2) → Value (toZ w64 (ofZ w64 (c .offset2 .result)))
 along-y c =
     let s = c .before .before .before .before .before .before in
-    offset-value (s .args .p .y) (s .args .disk .e) (s .args .disk .y) (record { sfits = c .before .before .struct-told3 .given .1 .0 .1 }) (limits-small (s .args .disk) (s .pre .0) .y-most)
+    offset-value (s .args .p .y) (s .args .disk .e) (s .args .disk .y) (record { sfits = c .before .before .struct-told3 .given .1 .0 .1 }) (limits-small (s .args .disk) (s .pre .0) .1 .c-most)
     (near-y (s .args .disk) (s .pre .0) (s .args .p) (s .pre .1)) (c .offset2 .ensures)
 
 abbrev squares : (c : tie.After-offset2)
@@ -29,12 +29,12 @@ squares c = let x = along-x (c .before .before .before) in v-add (v-back w64 (v-
 offset-requires : tie.Need-offset-requires
 offset-requires c κs =
     let s = c .before .before in
-    (s .pre .0 .e-most, stored-small (s .args .disk .x) (limits-small (s .args .disk) (s .pre .0) .x-most))
+    stored-small (s .args .disk .e) (s .args .disk .x) (limits-small (s .args .disk) (s .pre .0) .0)
 
 offset-requires-2 : tie.Need-offset-requires-2
 offset-requires-2 c κs =
     let s = c .before .before .before .before .before in
-    (s .pre .0 .e-most, stored-small (s .args .disk .y) (limits-small (s .args .disk) (s .pre .0) .y-most))
+    stored-small (s .args .disk .e) (s .args .disk .y) (limits-small (s .args .disk) (s .pre .0) .1)
 
 mul-result : tie.Need-mul-result
 mul-result c = let x = along-x (c .before .before .before) in fits (v-mul x x) tt

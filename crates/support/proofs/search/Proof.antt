@@ -1,7 +1,7 @@
 -- `support::search` meets its contract. The invariant of each loop: what is left to look at gives the whole answer.
 use borrow.Author.Needs.{needs}
 use mathlib.Core.Path.{_≡_, refl, sym, ap, _∙_}
-use mathlib.Core.Bool.{Bool}
+use mathlib.Core.Bool.{Bool, true, false}
 use mathlib.Core.List.{List, [], _∷_, _++_}
 use Prim.Native.Nat.{ℕ, _+_, _-_, _≤_, _<_}
 use native.Mathlib.Omega.{arith}
@@ -12,7 +12,9 @@ use Rattle.geometry.specs.Points.{pointAt, firstPoints}
 use Rattle.disks.specs.Support.{choose}
 use Rattle.support.specs.Search.{fits, firstFit}
 use Rattle.support.proofs.PointRows.{firstPoints-from, firstPoints-end}
-use Rattle.support.proofs.Left.{fit-some, acuteSet, three-acute, ones-hit, ones-miss, pairsFrom, pairsWith, triplesFrom, triplesWith, triplesOf, pairs-at, pair-hit, pair-miss, pairs-with-end, pairs-end, triples-at, triples-with-at, triple-hit, triple-miss, triples-of-end, triples-with-end, triples-end}
+use Rattle.support.proofs.Left.{fit-some, acuteSet, three-acute, ones-hit, ones-miss, pairsFrom, pairsWith, triplesFrom, triplesWith, triplesOf}
+use Rattle.support.proofs.Left.{pairs-at, pair-hit, pair-miss, pairs-with-end, pairs-end}
+use Rattle.support.proofs.Left.{triples-at, triples-with-at, triple-hit, triple-miss, triples-of-end, triples-with-end, triples-end}
 use Rattle.support.proofs.search.Statement.{statement}
 use Rattle.support.proofs.search.Tie as tie
 
@@ -52,29 +54,101 @@ Inv-search list n disk found₀ found = pairsFrom (fits disk) (firstPoints n lis
 abbrev μ-search : tie.MeasureT-search
 μ-search list n disk found₀ found = 0
 
+abbrev AtSearch : Type 0
+AtSearch = tie.At-search Inv-loop2 μ-loop2 Inv-loop μ-loop Inv-loop5 μ-loop5 Inv-loop4 μ-loop4 Inv-loop3 μ-loop3 Inv-search μ-search
+
 -- the function's start, the points and the test
-abbrev start : tie.At-search Inv-loop2 μ-loop2 Inv-loop μ-loop Inv-loop5 μ-loop5 Inv-loop4 μ-loop4 Inv-loop3 μ-loop3 Inv-search μ-search → tie.Start Inv-loop2 μ-loop2 Inv-loop μ-loop Inv-loop5 μ-loop5 Inv-loop4 μ-loop4 Inv-loop3 μ-loop3 Inv-search μ-search
+abbrev start : AtSearch → tie.Start Inv-loop2 μ-loop2 Inv-loop μ-loop Inv-loop5 μ-loop5 Inv-loop4 μ-loop4 Inv-loop3 μ-loop3 Inv-search μ-search
 start c = c .before .before .before .before
 
-abbrev row : tie.At-search Inv-loop2 μ-loop2 Inv-loop μ-loop Inv-loop5 μ-loop5 Inv-loop4 μ-loop4 Inv-loop3 μ-loop3 Inv-search μ-search → List Point
+abbrev row : AtSearch → List Point
 row c = firstPoints (start c .args .n) (start c .args .list .now)
 
-abbrev passes : tie.At-search Inv-loop2 μ-loop2 Inv-loop μ-loop Inv-loop5 μ-loop5 Inv-loop4 μ-loop4 Inv-loop3 μ-loop3 Inv-search μ-search → List Point → Bool
+abbrev passes : AtSearch → List Point → Bool
 passes c = fits (start c .args .disk)
 
--- a point that was read is the first of those from there on
-next : (s : tie.At-search Inv-loop2 μ-loop2 Inv-loop μ-loop Inv-loop5 μ-loop5 Inv-loop4 μ-loop4 Inv-loop3 μ-loop3 Inv-search μ-search) (i : ℕ) {p : Point} → p ≡ pointAt (start s .args .list .now) i → i < start s .args .n → drop i (row s) ≡ p ∷ drop (i + 1) (row s)
-next s i e h = firstPoints-from (start s .args .n) i (start s .args .list .now) (start s .pre .0) h ∙ ap {B = List Point} (λ q. q ∷ drop (i + 1) (row s)) (sym e)
+abbrev answer : AtSearch → List Point
+answer c = firstFit (start c .args .disk) (row c)
 
-none : (s : tie.At-search Inv-loop2 μ-loop2 Inv-loop μ-loop Inv-loop5 μ-loop5 Inv-loop4 μ-loop4 Inv-loop3 μ-loop3 Inv-search μ-search) (i : ℕ) → start s .args .n ≤ i → drop i (row s) ≡ []
+-- a point that was read is the first of those from there on
+next : (s : AtSearch) (i : ℕ) {p : Point} → p ≡ pointAt (start s .args .list .now) i → i < start s .args .n → drop i (row s) ≡ p ∷ drop (i + 1) (row s)
+next s i e h =
+    firstPoints-from (start s .args .n) i (start s .args .list .now) (start s .pre .0) h
+    ∙ ap {B = List Point} (λ q. q ∷ drop (i + 1) (row s)) (sym e)
+
+none : (s : AtSearch) (i : ℕ) → start s .args .n ≤ i → drop i (row s) ≡ []
 none s i h = firstPoints-end (start s .args .n) i (start s .args .list .now) (start s .pre .0) h
 
+-- a pair of points that were read
+module _ (c : tie.After-point-at3 Inv-loop2 μ-loop2 Inv-loop μ-loop Inv-loop5 μ-loop5 Inv-loop4 μ-loop4 Inv-loop3 μ-loop3 Inv-search μ-search) where
+  abbrev from-first : tie.After-point-at2 Inv-loop2 μ-loop2 Inv-loop μ-loop Inv-loop5 μ-loop5 Inv-loop4 μ-loop4 Inv-loop3 μ-loop3 Inv-search μ-search
+  from-first = c .before .before .before
+
+  abbrev s : AtSearch
+  s = from-first .before .before .before
+
+  abbrev p : Point
+  p = from-first .point-at2 .result
+
+  abbrev i : ℕ
+  i = from-first .before .before .loop .i
+
+  abbrev j : ℕ
+  j = c .before .before .loop2 .j
+
+  second : drop j (row s) ≡ c .point-at3 .result ∷ drop (j + 1) (row s)
+  second = next s j (c .point-at3 .ensures) (c .before .loop2-test .taken)
+
+  pair-passes : passes s (p ∷ c .point-at3 .result ∷ []) ≡ true → p ∷ c .point-at3 .result ∷ [] ≡ answer s
+  pair-passes h = sym (pair-hit (passes s) (row s) p i (c .point-at3 .result) j second h) ∙ c .before .before .loop2 .inv .1
+
+  pair-fails : passes s (p ∷ c .point-at3 .result ∷ []) ≡ false → pairsWith (passes s) (row s) p i (j + 1) ≡ answer s
+  pair-fails h = sym (pair-miss (passes s) (row s) p i (c .point-at3 .result) j second h) ∙ c .before .before .loop2 .inv .1
+
 -- no pair passes: the first triple is the answer
-after-pairs : (c : tie.After-loop Inv-loop2 μ-loop2 Inv-loop μ-loop Inv-loop5 μ-loop5 Inv-loop4 μ-loop4 Inv-loop3 μ-loop3 Inv-search μ-search) → triplesFrom acuteSet (row (c .before .before)) 0 ≡ firstFit (start (c .before .before) .args .disk) (row (c .before .before))
+after-pairs : (c : tie.After-loop Inv-loop2 μ-loop2 Inv-loop μ-loop Inv-loop5 μ-loop5 Inv-loop4 μ-loop4 Inv-loop3 μ-loop3 Inv-search μ-search) → triplesFrom acuteSet (row (c .before .before)) 0 ≡ answer (c .before .before)
 after-pairs c =
     let at = c .before in
-    let s = at .before in
-    sym (three-acute (start s .args .disk) (row s)) ∙ sym (pairs-end (passes s) (row s) (at .loop .i) (none s (at .loop .i) (c .loop-test .left))) ∙ at .loop .inv .1
+    let u = at .before in
+    sym (three-acute (start u .args .disk) (row u)) ∙ sym (pairs-end (passes u) (row u) (at .loop .i) (none u (at .loop .i) (c .loop-test .left))) ∙ at .loop .inv .1
+
+-- a triple of points that were read
+module _ (c : tie.After-point-at6 Inv-loop2 μ-loop2 Inv-loop μ-loop Inv-loop5 μ-loop5 Inv-loop4 μ-loop4 Inv-loop3 μ-loop3 Inv-search μ-search) where
+  abbrev with-second : tie.After-point-at5 Inv-loop2 μ-loop2 Inv-loop μ-loop Inv-loop5 μ-loop5 Inv-loop4 μ-loop4 Inv-loop3 μ-loop3 Inv-search μ-search
+  with-second = c .before .before .before
+
+  abbrev with-first : tie.After-point-at4 Inv-loop2 μ-loop2 Inv-loop μ-loop Inv-loop5 μ-loop5 Inv-loop4 μ-loop4 Inv-loop3 μ-loop3 Inv-search μ-search
+  with-first = with-second .before .before .before
+
+  abbrev u : AtSearch
+  u = with-first .before .before .before .before .before
+
+  abbrev a : Point
+  a = with-first .point-at4 .result
+
+  abbrev b : Point
+  b = with-second .point-at5 .result
+
+  abbrev ia : ℕ
+  ia = with-first .before .before .loop3 .i
+
+  abbrev jb : ℕ
+  jb = with-second .before .before .loop4 .j
+
+  abbrev k : ℕ
+  k = c .before .before .loop5 .k
+
+  third : drop k (row u) ≡ c .point-at6 .result ∷ drop (k + 1) (row u)
+  third = next u k (c .point-at6 .ensures) (c .before .loop5-test .taken)
+
+  triple-passes : acuteSet (a ∷ b ∷ c .point-at6 .result ∷ []) ≡ true → a ∷ b ∷ c .point-at6 .result ∷ [] ≡ answer u
+  triple-passes h =
+      sym (triple-hit acuteSet (row u) a ia b jb (c .point-at6 .result) k third h)
+      ∙ c .before .before .loop5 .inv .1
+      ∙ after-pairs (with-first .before .before .before)
+
+  triple-fails : acuteSet (a ∷ b ∷ c .point-at6 .result ∷ []) ≡ false → triplesOf acuteSet (row u) a b ia jb (k + 1) ≡ triplesFrom acuteSet (row u) 0
+  triple-fails h = sym (triple-miss acuteSet (row u) a ia b jb (c .point-at6 .result) k third h) ∙ c .before .before .loop5 .inv .1
 
 point-at-requires : tie.Need-point-at-requires Inv-loop2 μ-loop2 Inv-loop μ-loop Inv-loop5 μ-loop5 Inv-loop4 μ-loop4 Inv-loop3 μ-loop3 Inv-search μ-search
 point-at-requires c κs = omega (arith, fit-some (c .args .disk) (c .args .n) (c .args .list .now) (c .pre .2), c .pre .0)
@@ -84,9 +158,11 @@ unfolding firstFit fits
 returns c =
     let s = c .before .before .before in
     let Q : List Point = firstPoints (s .args .n) (s .args .list .now) in
+    let p : Point = c .before .before .point-at .result in
     let some : 0 < s .args .n = fit-some (s .args .disk) (s .args .n) (s .args .list .now) (s .pre .2) in
-    let first : Q ≡ c .before .before .point-at .result ∷ drop 1 Q = firstPoints-from (s .args .n) 0 (s .args .list .now) (s .pre .0) some ∙ ap {B = List Point} (λ p. p ∷ drop 1 Q) (sym (c .before .before .point-at .ensures)) in
-    sym (ones-hit (fits (s .args .disk)) Q (c .before .before .point-at .result) (drop 1 Q) first (eq-eqb (s .args .disk .s) 0 (c .if1 .taken)))
+    let first : Q ≡ p ∷ drop 1 Q =
+    firstPoints-from (s .args .n) 0 (s .args .list .now) (s .pre .0) some ∙ ap {B = List Point} (λ q. q ∷ drop 1 Q) (sym (c .before .before .point-at .ensures)) in
+    sym (ones-hit (fits (s .args .disk)) Q p (drop 1 Q) first (eq-eqb (s .args .disk .s) 0 (c .if1 .taken)))
 
 search-holds : tie.Need-search-holds Inv-loop2 μ-loop2 Inv-loop μ-loop Inv-loop5 μ-loop5 Inv-loop4 μ-loop4 Inv-loop3 μ-loop3 Inv-search μ-search
 unfolding firstFit fits
@@ -124,12 +200,7 @@ loop2-less c = omega arith
 
 loop2-again : tie.Need-loop2-again Inv-loop2 μ-loop2 Inv-loop μ-loop Inv-loop5 μ-loop5 Inv-loop4 μ-loop4 Inv-loop3 μ-loop3 Inv-search μ-search
 unfolding fits
-loop2-again c =
-    let q = c .before .before in
-    let at = q .before .before in
-    let p = at .before in
-    let s = p .before .before .before in
-    (omega arith, sym (pair-miss (passes s) (row s) (p .point-at2 .result) (p .before .before .loop .i) (q .point-at3 .result) (at .loop2 .j) (next s (at .loop2 .j) (q .point-at3 .ensures) (q .before .loop2-test .taken)) (sym (c .before .is-opposite .ensures) ∙ c .if2 .left)) ∙ at .loop2 .inv .1)
+loop2-again c = (omega arith, pair-fails (c .before .before) (sym (c .before .is-opposite .ensures) ∙ c .if2 .left))
 
 add-i : tie.Need-add-i Inv-loop2 μ-loop2 Inv-loop μ-loop Inv-loop5 μ-loop5 Inv-loop4 μ-loop4 Inv-loop3 μ-loop3 Inv-search μ-search
 add-i c = omega arith
@@ -186,13 +257,7 @@ loop5-less c = omega arith
 
 loop5-again : tie.Need-loop5-again Inv-loop2 μ-loop2 Inv-loop μ-loop Inv-loop5 μ-loop5 Inv-loop4 μ-loop4 Inv-loop3 μ-loop3 Inv-search μ-search
 unfolding acuteSet
-loop5-again c =
-    let r = c .before .before in
-    let at = r .before .before in
-    let q = at .before in
-    let p = q .before .before .before in
-    let s = p .before .before .before .before .before in
-    (omega arith, sym (triple-miss acuteSet (row s) (p .point-at4 .result) (p .before .before .loop3 .i) (q .point-at5 .result) (q .before .before .loop4 .j) (r .point-at6 .result) (at .loop5 .k) (next s (at .loop5 .k) (r .point-at6 .ensures) (r .before .loop5-test .taken)) (sym (c .before .is-acute .ensures) ∙ c .if3 .left)) ∙ at .loop5 .inv .1)
+loop5-again c = (omega arith, triple-fails (c .before .before) (sym (c .before .is-acute .ensures) ∙ c .if3 .left))
 
 add-j-4 : tie.Need-add-j-4 Inv-loop2 μ-loop2 Inv-loop μ-loop Inv-loop5 μ-loop5 Inv-loop4 μ-loop4 Inv-loop3 μ-loop3 Inv-search μ-search
 add-j-4 c = omega arith
@@ -223,30 +288,18 @@ loop3-again c =
 
 returns-2 : tie.Need-returns-2 Inv-loop2 μ-loop2 Inv-loop μ-loop Inv-loop5 μ-loop5 Inv-loop4 μ-loop4 Inv-loop3 μ-loop3 Inv-search μ-search
 unfolding fits
-returns-2 c =
-    let q = c .before .before in
-    let at = q .before .before in
-    let p = at .before in
-    let s = p .before .before .before in
-    sym (pair-hit (passes s) (row s) (p .point-at2 .result) (p .before .before .loop .i) (q .point-at3 .result) (at .loop2 .j) (next s (at .loop2 .j) (q .point-at3 .ensures) (q .before .loop2-test .taken)) (sym (c .before .is-opposite .ensures) ∙ c .if2 .taken)) ∙ at .loop2 .inv .1
+returns-2 c = pair-passes (c .before .before) (sym (c .before .is-opposite .ensures) ∙ c .if2 .taken)
 
 returns-3 : tie.Need-returns-3 Inv-loop2 μ-loop2 Inv-loop μ-loop Inv-loop5 μ-loop5 Inv-loop4 μ-loop4 Inv-loop3 μ-loop3 Inv-search μ-search
 unfolding acuteSet
-returns-3 c =
-    let r = c .before .before in
-    let at = r .before .before in
-    let q = at .before in
-    let p = q .before .before .before in
-    let s = p .before .before .before .before .before in
-    sym (triple-hit acuteSet (row s) (p .point-at4 .result) (p .before .before .loop3 .i) (q .point-at5 .result) (q .before .before .loop4 .j) (r .point-at6 .result) (at .loop5 .k) (next s (at .loop5 .k) (r .point-at6 .ensures) (r .before .loop5-test .taken)) (sym (c .before .is-acute .ensures) ∙ c .if3 .taken))
-    ∙ at .loop5 .inv .1
-    ∙ after-pairs (p .before .before .before)
+returns-3 c = triple-passes (c .before .before) (sym (c .before .is-acute .ensures) ∙ c .if3 .taken)
 
 returns-4 : tie.Need-returns-4 Inv-loop2 μ-loop2 Inv-loop μ-loop Inv-loop5 μ-loop5 Inv-loop4 μ-loop4 Inv-loop3 μ-loop3 Inv-search μ-search
 returns-4 c =
     let at = c .before in
     let s = at .before .before .before in
-    let no-set : firstFit (start s .args .disk) (row s) ≡ [] = sym (after-pairs (at .before)) ∙ sym (at .loop3 .inv .1) ∙ triples-end acuteSet (row s) (at .loop3 .i) (none s (at .loop3 .i) (c .loop3-test .left)) in
+    let end : triplesFrom acuteSet (row s) (at .loop3 .i) ≡ [] = triples-end acuteSet (row s) (at .loop3 .i) (none s (at .loop3 .i) (c .loop3-test .left)) in
+    let no-set : answer s ≡ [] = sym (after-pairs (at .before)) ∙ sym (at .loop3 .inv .1) ∙ end in
     absurd (omega (arith, start s .pre .2, ap length no-set))
 
 pub search-spec : {M : Type 1} → statement M

@@ -4,7 +4,6 @@ use borrow.Author.Needs.{needs}
 use mathlib.Core.Path.{_≡_, sym, ap, _∙_}
 use mathlib.Core.Logic.{⊎-elim}
 use mathlib.Core.Bool.{true}
-use mathlib.Core.List.{List, _∷_, List·Memᴰ}
 use Prim.Native.Nat.{ℕ, _+_, _-_, _*_, _^_, _≤_, _<_}
 use native.Mathlib.Omega.{arith}
 use lib.ListN.{length}
@@ -210,8 +209,8 @@ module _ (t : ℕ) where
             (c .if2 .came),
       )
 
-  add-total : lts.Need-add-t22 (claims t) (mtf-at t) mtf.Post Inv-loop μ-loop
-  add-total c = omega (arith, counted (c .before))
+  add-tests : lts.Need-add-tests (claims t) (mtf-at t) mtf.Post Inv-loop μ-loop
+  add-tests c = omega (arith, counted (c .before))
 
   same-length : lts.Need-same-length (claims t) (mtf-at t) mtf.Post Inv-loop μ-loop
   same-length c = kept (c .before)
@@ -239,6 +238,6 @@ pub +mtf-spec : {M : Type 1} → statement M
     (add-i t)
     (loop-less t)
     (loop-again t)
-    (add-total t)
+    (add-tests t)
     (same-length t)
     (returns-2 t)

@@ -1,0 +1,177 @@
+-- Demand 3 holds (specs/Demand3.antt).
+--
+--   procedure-welzls  : the engine's answer is the procedure's
+--   answers d S       == what radius and writer give for the disk d and the support set S
+--   worked-is         : the calls on an accepted description, one after another, give the answers for the points that it names
+--   records-equal     : two records worked out are equal exactly where the disks and the first support sets are
+--   demand-three      : Demand3
+use mathlib.Core.Path.{_≡_, refl, sym, ap, ap₂, _∙_, subst}
+use mathlib.Core.Logic.{_↔_}
+use mathlib.Core.Bool.{true}
+use mathlib.Core.List.{List, [], _∷_, List·Permᴰ}
+use Prim.Native.Nat.{ℕ, _+_, _*_, _/_, _%_, _≤_}
+use native.Mathlib.Omega.{arith}
+use lib.Dec.{T}
+use lib.IntN.{ℤ}
+use lib.ListN.{length, take}
+use Rattle.answers.specs.Outcome.{Outcome, given, andThen}
+use Rattle.geometry.specs.declared.Point.{Point}
+use Rattle.geometry.specs.declared.Disk.{Disk}
+use Rattle.geometry.specs.Plane.{allInEmBox}
+use Rattle.geometry.specs.Points.{points, flat}
+use Rattle.geometry.proofs.PointLists.{length-flat}
+use Rattle.disks.specs.Smallest.{In, Same, Smallest}
+use Rattle.disks.specs.Procedure.{Cover, disk, State, mtf, diskIn, diskOf, testsOf, orderOf}
+use Rattle.disks.specs.Support.{firstSupport}
+use Rattle.disks.specs.FirstSupport.{IsFirstSupport}
+use Rattle.disks.proofs.LiftedProcedure as L
+use Rattle.disks.proofs.Bridge.{cover-disk, mtf-image}
+use Rattle.disks.proofs.Correct.{mtf-strong}
+use Rattle.disks.proofs.LowestTerms.{lowered}
+use Rattle.disks.proofs.Welzl.{smallest, disk-same, tests-most, order-permuted}
+use Rattle.disks.proofs.First.{first-support-same}
+use Rattle.description.specs.Description as description
+use Rattle.description.specs.Description.{loadOf, named}
+use Rattle.description.proofs.Accepted.{load-same, accepted-room, accepted-count, accepted-some, accepted-few, accepted-in-box, accepted-front}
+use Rattle.engine.specs.Engine.{Enclosure, enclosure, encloseOf, listAfter}
+use Rattle.engine.proofs.Checks.{accepted, list-accepted}
+use Rattle.engine.proofs.Found.{members-box, points-of-flat}
+use Rattle.engine.proofs.Accepted.{Accepted, accepted-list, has-point}
+use Rattle.record.specs.Valid.{valid}
+use Rattle.record.specs.Bytes.{recordLength, recordBytes}
+use Rattle.record.specs.Radius.{wholeRadius, radiusOf}
+use Rattle.record.specs.Writing.{writeOf, bufferAfter}
+use Rattle.record.proofs.RoundTrip.{record-injective}
+use Rattle.claims.specs.Demand3.{ProcedureIsWelzls, AcceptedDescription, Answers, worked, WorkedOut, Demand3}
+use Rattle.claims.proofs.ValidAnswer.{valid-answer}
+use Rattle.claims.proofs.Records.{written, in-front, filled}
+use Rattle.claims.proofs.Demand2.{engine-right}
+
+-- ---- the procedure
+
+ends-on : (P : List Point) → (P ≡ [] → ⊥) → mtf [] P .cover ≡ disk (diskOf P)
+ends-on [] some = absurd (some refl)
+ends-on (p ∷ P) some = is ∙ ap (λ (c : Cover). disk (diskIn c)) (sym is)
+  where
+    is : mtf [] (p ∷ P) .cover ≡ disk (lowered (L.mtf (p ∷ P) .disk))
+    is = ap (λ (s : State). s .cover) (mtf-image (p ∷ P)) ∙ cover-disk (L.mtf (p ∷ P) .disk) (mtf-strong p P .feasible .proper)
+
+few : (P : List Point) → testsOf P ≤ (length P * length P * length P + 5 * length P) / 6
+few P = omega (arith, tests-most P)
+
+procedure-welzls : (l : List ℤ) (e : Enclosure) → encloseOf l ≡ given e → ProcedureIsWelzls l e
+procedure-welzls l e h = subst (ProcedureIsWelzls l) (sym (a .answer)) (record {
+  ends-on-disk = ends-on (points l) (has-point l (a .even) (a .some));
+  smallest = subst (λ (k : Enclosure). Smallest (points l) (k .disk)) (a .answer) (engine-right l e h .smallest);
+  tests-are = refl;
+  order-is = order;
+  permuted = subst (λ (Q : List Point). List·Permᴰ Q (points l)) (sym (ap points order ∙ points-of-flat (orderOf (points l)))) (order-permuted (points l));
+  tests-most = few (points l);
+})
+  where
+    a : Accepted l e
+    a = accepted-list l e h
+
+    order : listAfter l ≡ flat (orderOf (points l))
+    order = list-accepted l h
+
+-- ---- records worked out
+
+valid-enclosure : (l : List ℤ) (e : Enclosure) → encloseOf l ≡ given e → valid (e .disk) (e .support) ≡ true
+valid-enclosure l e h =
+    let a = accepted-list l e h in
+    subst (λ (k : Enclosure). valid (k .disk) (k .support) ≡ true) (sym (a .answer)) (valid-answer (points l) (has-point l (a .even) (a .some)) (a .boxed))
+
+recorded : (l : List ℤ) (e : Enclosure) → encloseOf l ≡ given e → (b : List ℕ) → recordLength ≤ length b
+    → WorkedOut l (take recordLength (bufferAfter (e .disk) (e .support) b))
+recorded l e h b k = record { answer = e; accepted = h; buffer = b; written = written (e .disk) (e .support) b (valid-enclosure l e h) k; filled = refl }
+
+worked-bytes : {l : List ℤ} {bs : List ℕ} (w : WorkedOut l bs) → bs ≡ recordBytes (w .answer .disk) (w .answer .support)
+worked-bytes w = w .filled ∙ filled (w .answer .disk) (w .answer .support) (w .buffer) (w .written)
+
+module _ {l m : List ℤ} {bs cs : List ℕ} (w : WorkedOut l bs) (v : WorkedOut m cs) {d c : Disk} {S R : List Point}
+    (d-is : d ≡ w .answer .disk) (c-is : c ≡ v .answer .disk) (S-is : S ≡ w .answer .support) (R-is : R ≡ v .answer .support) where
+  equal-answers : bs ≡ cs → (d ≡ c) × (S ≡ R)
+  equal-answers e =
+      let same = record-injective (w .answer .disk) (v .answer .disk) (w .answer .support) (v .answer .support)
+      (valid-enclosure l (w .answer) (w .accepted)) (valid-enclosure m (v .answer) (v .accepted)) (sym (worked-bytes w) ∙ e ∙ worked-bytes v) in
+      (d-is ∙ same .0 ∙ sym c-is, S-is ∙ same .1 ∙ sym R-is)
+
+  equal-bytes : (d ≡ c) × (S ≡ R) → bs ≡ cs
+  equal-bytes e = worked-bytes w ∙ ap₂ recordBytes (sym d-is ∙ e .0 ∙ c-is) (sym S-is ∙ e .1 ∙ R-is) ∙ sym (worked-bytes v)
+
+-- ---- descriptions
+
+loaded : {t : List ℕ} (a : AcceptedDescription t) (l : List ℤ) → 8192 ≤ length l → loadOf t l ≡ given (a .count)
+loaded {t} a l h = load-same t l (a .list) h (accepted-room t (a .list) (a .count) (a .loads)) ∙ a .loads
+
+-- the engine, given the points of a list alone
+enclosed-flat : (P : List Point) → 1 ≤ length P → length P ≤ 4096 → allInEmBox P ≡ true → encloseOf (flat P) ≡ given (enclosure P)
+enclosed-flat P some most box =
+    accepted (flat P) (λ h. odd (length P) (length (flat P)) (length-flat P) h) (λ h. none (length P) (length (flat P)) (length-flat P) some h)
+    (half (length P) (length (flat P)) (length-flat P) most) (ap allInEmBox (points-of-flat P) ∙ box)
+    ∙ ap (λ (Q : List Point). given (enclosure Q)) (points-of-flat P)
+  where
+    odd : (n k : ℕ) → k ≡ 2 * n → k % 2 ≡ 1 → ⊥
+    odd n k e h = omega arith
+
+    none : (n k : ℕ) → k ≡ 2 * n → 1 ≤ n → k ≡ 0 → ⊥
+    none n k e s h = omega arith
+
+    half : (n k : ℕ) → k ≡ 2 * n → n ≤ 4096 → k / 2 ≤ 4096
+    half n k e h = omega arith
+
+abbrev answers : Disk → List Point → Answers
+answers d S = record { disk-given = d; support = S; radius = wholeRadius d; bytes = recordBytes d S }
+
+module _ {t : List ℕ} (a : AcceptedDescription t) (l : List ℤ) (b : List ℕ) (long : 8192 ≤ length l) (room : recordLength ≤ length b) where
+  loads : loadOf t l ≡ given (a .count)
+  loads = loaded a l long
+
+  boxed : allInEmBox (named t) ≡ true
+  boxed = members-box (named t) (λ p i. subst T (sym (accepted-in-box t l (a .count) loads p i)) tt)
+
+  some-named : 1 ≤ length (named t)
+  some-named = subst (λ (n : ℕ). 1 ≤ n) (accepted-count t l (a .count) loads) (accepted-some t l (a .count) loads)
+
+  encloses : encloseOf (take (2 * a .count) (description.listAfter t l)) ≡ given (enclosure (named t))
+  encloses = ap encloseOf (accepted-front t l (a .count) loads)
+      ∙ enclosed-flat (named t) some-named (subst (λ (n : ℕ). n ≤ 4096) (accepted-count t l (a .count) loads) (accepted-few t l (a .count) loads)) boxed
+
+  valid-named : valid (diskOf (named t)) (firstSupport (named t)) ≡ true
+  valid-named = valid-answer (named t) (λ e. none (length (named t)) some-named (ap length e)) boxed
+    where
+      none : (n : ℕ) → 1 ≤ n → n ≡ 0 → ⊥
+      none n h e = omega arith
+
+  writes : writeOf (diskOf (named t)) (firstSupport (named t)) b ≡ given tt
+  writes = written (diskOf (named t)) (firstSupport (named t)) b valid-named room
+
+  reaches : radiusOf (diskOf (named t)) (firstSupport (named t)) ≡ given (wholeRadius (diskOf (named t)))
+  reaches = rw valid-named
+
+  worked-is : worked t l b ≡ given (answers (diskOf (named t)) (firstSupport (named t)))
+  unfolding worked
+  worked-is = rw (loads, encloses, reaches, writes, in-front (diskOf (named t)) (firstSupport (named t)) b valid-named)
+
+same-answers : (P Q : List Point) → Same P Q → answers (diskOf P) (firstSupport P) ≡ answers (diskOf Q) (firstSupport Q)
+same-answers P Q s = ap₂ answers (disk-same P Q s) (first-support-same P Q s)
+
+pub demand-three : Demand3
+demand-three = record {
+  procedure = procedure-welzls;
+  descriptions = λ t u a e s l m h k b c i j. (
+    answers (diskOf (named t)) (firstSupport (named t)),
+    worked-is a l b h i,
+    worked-is e m c k j ∙ ap given (sym (same-answers (named t) (named u) s)),
+  );
+  recorded = recorded;
+  records = λ l m bs cs w v d c sd sc S R fs fr.
+      let left = engine-right l (w .answer) (w .accepted) in
+      let right = engine-right m (v .answer) (v .accepted) in
+      let di = left .no-other-disk d sd in
+      let ci = right .no-other-disk c sc in
+      let si = left .no-other-support S fs in
+      let ri = right .no-other-support R fr in
+      (equal-answers w v di ci si ri, equal-bytes w v di ci si ri);
+}

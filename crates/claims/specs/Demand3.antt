@@ -1,0 +1,95 @@
+-- Demand 3 of document 00, over the definitions that the contracts of the public calls cite. It is shown in proofs/Demand3.antt.
+--
+--   ProcedureIsWelzls    == the disk, the count and the order left are those of Welzl's procedure, started on the list as given; the order
+--                           left is a permutation, and the count is at most (n³ + 5n) / 6
+--   AcceptedDescription  == a description that the loader, lent some list, does not refuse
+--   Answers              == what the calls give for a description: disk, support set, whole radius, preview and record
+--   worked t l b         == the calls one after another for the description t, lent the list l and the buffer b: loader; engine, given the
+--                           loader's points alone; whole radius, preview and writer, given what the engine returned
+--   WorkedOut l bs       == bs is a record worked out for the accepted list l, in some buffer that the writer does not refuse
+--   Demand3              == all of demand 3
+use mathlib.Core.Path.{_≡_}
+use mathlib.Core.Logic.{_↔_}
+use mathlib.Core.List.{List, [], List·Permᴰ}
+use Prim.Native.Nat.{ℕ, _+_, _*_, _/_, _≤_}
+use lib.IntN.{ℤ}
+use lib.ListN.{length, take}
+use Rattle.answers.specs.Outcome.{Outcome, given, andThen}
+use Rattle.geometry.specs.declared.Point.{Point}
+use Rattle.geometry.specs.declared.Disk.{Disk}
+use Rattle.geometry.specs.Points.{points, flat}
+use Rattle.disks.specs.Smallest.{Same, Smallest}
+use Rattle.disks.specs.Procedure.{disk, mtf}
+use Rattle.disks.specs.FirstSupport.{IsFirstSupport}
+use Rattle.description.specs.Description as description
+use Rattle.description.specs.Description.{loadOf, named}
+use Rattle.engine.specs.Engine.{Enclosure, encloseOf, listAfter}
+use Rattle.record.specs.Bytes.{recordLength}
+use Rattle.record.specs.Radius.{radiusOf}
+use Rattle.record.specs.Writing.{writeOf, bufferAfter}
+
+-- ---- the procedure
+
+-- of the answer e for the list l
+pub record ProcedureIsWelzls (l : List ℤ) (e : Enclosure) : Type 0 where
+  -- "Welzl's move-to-front procedure, started on the list as given, ends on the disk of demand 2"
+  pub ends-on-disk : mtf [] (points l) .cover ≡ disk (e .disk)
+  pub smallest : Smallest (points l) (e .disk)
+  -- "The test count returned and the order left in the list .. are exactly that procedure's"
+  pub tests-are : e .tests ≡ mtf [] (points l) .tests
+  pub order-is : listAfter l ≡ flat (mtf [] (points l) .left)
+  -- "the same corners each as often as before"
+  pub permuted : List·Permᴰ (points (listAfter l)) (points l)
+  -- "the count never above (n³ + 5n) / 6 for n entries"
+  pub tests-most : e .tests ≤ (length (points l) * length (points l) * length (points l) + 5 * length (points l)) / 6
+
+-- ---- two descriptions
+
+pub record AcceptedDescription (t : List ℕ) : Type 0 where
+  pub list : List ℤ
+  pub count : ℕ
+  pub loads : loadOf t list ≡ given count
+
+pub record Answers : Type 0 where
+  pub disk-given : Disk
+  pub support : List Point
+  pub radius : ℕ
+  pub bytes : List ℕ
+
+unfoldable pub worked : List ℕ → List ℤ → List ℕ → Outcome Answers
+worked t l b =
+    andThen (loadOf t l) (λ n.
+    andThen (encloseOf (take (2 * n) (description.listAfter t l))) (λ e.
+    andThen (radiusOf (e .disk) (e .support)) (λ r.
+    andThen (writeOf (e .disk) (e .support) b) (λ done.
+    given (record { disk-given = e .disk; support = e .support; radius = r; bytes = take recordLength (bufferAfter (e .disk) (e .support) b) })))))
+
+-- ---- records worked out
+
+pub record WorkedOut (l : List ℤ) (bs : List ℕ) : Type 0 where
+  pub answer : Enclosure
+  pub accepted : encloseOf l ≡ given answer
+  pub buffer : List ℕ
+  pub written : writeOf (answer .disk) (answer .support) buffer ≡ given tt
+  pub filled : bs ≡ take recordLength (bufferAfter (answer .disk) (answer .support) buffer)
+
+pub record Demand3 : Type 0 where
+  -- every list that the engine accepts, whatever points in it repeat or share a circle
+  pub procedure : (l : List ℤ) (e : Enclosure) → encloseOf l ≡ given e → ProcedureIsWelzls l e
+  -- "Any two accepted descriptions that name the same set of corners, in whatever order and however often, give the same disk, rim corners,
+  -- cutting radius, preview and record, to the last bit": none of the calls refuses, and all that they give is equal
+  pub descriptions :
+      (t u : List ℕ) → AcceptedDescription t → AcceptedDescription u → Same (named t) (named u)
+      → (l m : List ℤ) → 8192 ≤ length l → 8192 ≤ length m
+      → (b c : List ℕ) → recordLength ≤ length b → recordLength ≤ length c
+      → (a : Answers) × (worked t l b ≡ given a) × (worked u m c ≡ given a)
+  -- the writer refuses no answer of the engine, in a buffer that is long enough
+  pub recorded :
+      (l : List ℤ) (e : Enclosure) → encloseOf l ≡ given e
+      → (b : List ℕ) → recordLength ≤ length b → WorkedOut l (take recordLength (bufferAfter (e .disk) (e .support) b))
+  -- "any two records worked out are equal byte for byte exactly when the smallest disks and first rim sets of their lists are equal"
+  pub records :
+      (l m : List ℤ) (bs cs : List ℕ) → WorkedOut l bs → WorkedOut m cs
+      → (d c : Disk) → Smallest (points l) d → Smallest (points m) c
+      → (S R : List Point) → IsFirstSupport (points l) S → IsFirstSupport (points m) R
+      → (bs ≡ cs) ↔ ((d ≡ c) × (S ≡ R))

@@ -1,0 +1,66 @@
+use borrow.Author.Needs.{needs}
+use Rattle.listing.proofs.main.Statement.{statement}
+use Rattle.listing.proofs.main.Tie as tie
+use Rattle.listing.proofs.main.Reads as reads
+use Rattle.listing.proofs.main.Lts as lts
+use Rattle.io.proofs.large_buffer.Reads as large-buffer-reads
+use Rattle.listing.proofs.read_all.Reads as read-all-reads
+use Rattle.os.proofs.fail.Reads as fail-reads
+use Rattle.report.proofs.print_description.Reads as print-description-reads
+
+large-buffer-requires : tie.Need-large-buffer-requires
+large-buffer-requires c κs = search needs
+
+slice-aggregate-read-all : tie.Need-slice-aggregate-read-all
+slice-aggregate-read-all c = search needs
+
+read-all-requires : tie.Need-read-all-requires
+read-all-requires c κs = search needs
+
+enum-known-n : tie.Need-enum-known-n
+enum-known-n c = search needs
+
+array-share-prefix-text : tie.Need-array-share-prefix-text
+array-share-prefix-text c = ?
+
+slice-aggregate-print-description : tie.Need-slice-aggregate-print-description
+slice-aggregate-print-description c = ?
+
+slice-aggregate-print-description-2 : tie.Need-slice-aggregate-print-description-2
+slice-aggregate-print-description-2 c = search needs
+
+print-description-requires : tie.Need-print-description-requires
+print-description-requires c κs = search needs
+
+enum-told : tie.Need-enum-told
+enum-told c = search needs
+
+slice-aggregate-fail : tie.Need-slice-aggregate-fail
+slice-aggregate-fail c = search needs
+
+fail-requires : tie.Need-fail-requires
+fail-requires c κs = search needs
+
+returns : tie.Need-returns
+returns c = search needs
+
+returns-2 : tie.Need-returns-2
+returns-2 c = search needs
+
+pub main-spec : {M : Type 1} → statement M
+main-spec =
+    tie.close
+    (tie.spec
+    large-buffer-requires
+    slice-aggregate-read-all
+    read-all-requires
+    enum-known-n
+    array-share-prefix-text
+    slice-aggregate-print-description
+    slice-aggregate-print-description-2
+    print-description-requires
+    enum-told
+    slice-aggregate-fail
+    fail-requires
+    returns
+    returns-2)

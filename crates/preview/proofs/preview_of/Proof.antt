@@ -1,0 +1,57 @@
+-- `preview::preview_of` meets its contract: a whole radius that was answered says that the disk is valid, and which radius it has.
+use mathlib.Core.Path.{sym, ap, _∙_}
+use borrow.Author.Needs.{needs}
+use Rattle.answers.specs.Outcome.{given, refused}
+use Rattle.geometry.specs.Plane.{members}
+use Rattle.record.specs.Valid.{valid}
+use Rattle.record.specs.Radius.{wholeRadius, outcome}
+use Rattle.record.proofs.ValidLaws.{limits, valid-disk}
+use Rattle.record.proofs.RadiusLaws.{radius-limit}
+use Rattle.preview.specs.Preview.{floats}
+use Rattle.preview.proofs.Answers.{given-by, refused-by}
+use Rattle.preview.proofs.preview_of.Statement.{statement}
+use Rattle.preview.proofs.preview_of.Tie as tie
+
+whole-radius-requires : tie.Need-whole-radius-requires
+whole-radius-requires c κs = search needs
+
+enum-known-r : tie.Need-enum-known-r
+enum-known-r c = search needs
+
+floats-of-requires : tie.Need-floats-of-requires
+floats-of-requires c κs =
+    let w = c .before .before .before in
+    let d = w .before .args .d in
+    let ps = members (w .before .args .t) in
+    let k = given-by (valid d ps) 7 _ (wholeRadius d) (ap outcome (sym (c .before .r .given .1)) ∙ w .whole-radius .ensures) in
+    let v = valid-disk d ps (k .0) in (v, rw (k .1) (radius-limit d (limits d v)))
+
+enum-known-r-2 : tie.Need-enum-known-r-2
+enum-known-r-2 c = search needs
+
+returns : tie.Need-returns
+returns c =
+    let w = c .before .before .before .before in
+    let d = w .before .args .d in
+    let ps = members (w .before .args .t) in
+    let k = given-by (valid d ps) 7 _ (wholeRadius d) (ap outcome (sym (c .before .before .r .given .1)) ∙ w .whole-radius .ensures) in
+    rw (k .0) (ap given (c .floats-of .ensures ∙ ap (floats d) (k .1)))
+
+returns-2 : tie.Need-returns-2
+returns-2 c =
+    let w = c .before .before .before in
+    let d = w .before .args .d in
+    let ps = members (w .before .args .t) in
+    let k = refused-by (valid d ps) 7 _ (wholeRadius d) (ap outcome (sym (c .before .r2 .given .1)) ∙ w .whole-radius .ensures) in
+    rw (k .0) (ap refused (k .1))
+
+pub preview-of-spec : {M : Type 1} → statement M
+preview-of-spec =
+    tie.close
+    (tie.spec
+    whole-radius-requires
+    enum-known-r
+    floats-of-requires
+    enum-known-r-2
+    returns
+    returns-2)
