@@ -94,6 +94,11 @@ typedef struct {
 
 typedef struct {
     uint64_t refusal;
+    double x, y, radius;
+} volkhidar_preview_answer;
+
+typedef struct {
+    uint64_t refusal;
     volkhidar_disk disk;
     volkhidar_support support;
 } volkhidar_record_answer;
@@ -124,6 +129,12 @@ volkhidar_disk_answer volkhidar_smallest_disk(int16_t *list, size_t list_length)
  * Refusal: 7 for a disk and support set that a valid record could not hold.
  */
 volkhidar_radius_answer volkhidar_whole_radius(volkhidar_disk disk, volkhidar_support support);
+
+/*
+ * The centre as x/e and y/e, each divided once and rounded once, and the whole radius.
+ * Refusal: 7 for a disk and support set that a valid record could not hold.
+ */
+volkhidar_preview_answer volkhidar_preview(volkhidar_disk disk, volkhidar_support support);
 
 /*
  * Writes the record of a disk and its support set into the first 44 bytes of `buffer`; the rest stays. Returns 0 or the refusal.

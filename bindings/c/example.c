@@ -37,6 +37,10 @@ static int work_out(const uint8_t *text, size_t length) {
     if (radius.refusal) return refused(radius.refusal);
     printf("whole %" PRIu64 "\ntests %" PRIu64 "\n", radius.radius, answer.tests);
 
+    volkhidar_preview_answer preview = volkhidar_preview(answer.disk, answer.support);
+    if (preview.refusal) return refused(preview.refusal);
+    printf("preview %.17g %.17g %.17g\n", preview.x, preview.y, preview.radius);
+
     uint8_t record[VOLKHIDAR_RECORD_LENGTH];
     uint64_t refusal = volkhidar_write_record(answer.disk, answer.support, record, sizeof record);
     if (refusal) return refused(refusal);

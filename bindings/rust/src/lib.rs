@@ -5,7 +5,7 @@
 //! A letter's way through the library:
 //!
 //! ```
-//! use volkhidar::{load, read_record, smallest_disk, whole_radius, write_record, Disk, LIST_LENGTH, RECORD_LENGTH};
+//! use volkhidar::{load, preview, read_record, smallest_disk, whole_radius, write_record, Disk, LIST_LENGTH, RECORD_LENGTH};
 //!
 //! let mut list = [0; LIST_LENGTH];
 //! let count = load(b"0 0\n4 0\n2 3\n", &mut list)?;
@@ -13,6 +13,7 @@
 //! assert_eq!(found.disk, Disk { x: 12, y: 5, e: 6, s: 169 });
 //! assert_eq!(found.tests, 7);
 //! assert_eq!(whole_radius(found.disk, found.support)?, 3);
+//! assert_eq!(preview(found.disk, found.support)?.y, 5.0 / 6.0);
 //!
 //! let mut record = [0; RECORD_LENGTH];
 //! write_record(found.disk, found.support, &mut record)?;
@@ -27,7 +28,7 @@ mod refusal;
 mod shapes;
 
 pub use refusal::Refusal;
-pub use shapes::{Disk, Enclosed, Point, SupportSet};
+pub use shapes::{Disk, Enclosed, Point, Preview, SupportSet};
 
 use refusal::checked;
 use std::ops::Range;
@@ -123,6 +124,22 @@ pub fn whole_radius(disk: Disk, support: SupportSet) -> Result<u64, Refusal> {
     let answer = unsafe { raw::volkhidar_whole_radius(disk, support.into()) };
     checked(answer.refusal)?;
     Ok(answer.radius)
+}
+
+/// The centre as x/e and y/e, each divided once and rounded once, and the whole radius.
+///
+/// Refuses a disk and support set that a valid record could not hold: [`Refusal::BadRecord`].
+///
+/// ```
+/// use volkhidar::{preview, Disk, Point, Preview, SupportSet};
+///
+/// let support = SupportSet::Two(Point { x: 0, y: 0 }, Point { x: 3, y: 0 });
+/// assert_eq!(preview(Disk { x: 3, y: 0, e: 2, s: 9 }, support), Ok(Preview { x: 1.5, y: 0.0, radius: 2.0 }));
+/// ```
+pub fn preview(disk: Disk, support: SupportSet) -> Result<Preview, Refusal> {
+    let answer = unsafe { raw::volkhidar_preview(disk, support.into()) };
+    checked(answer.refusal)?;
+    Ok(Preview { x: answer.x, y: answer.y, radius: answer.radius })
 }
 
 /// Writes the record of a disk and its support set into the first [`RECORD_LENGTH`] bytes of the buffer; the rest stays. Whether the

@@ -37,6 +37,14 @@ pub struct RadiusAnswer {
 }
 
 #[repr(C)]
+pub struct PreviewAnswer {
+    pub refusal: u64,
+    pub x: f64,
+    pub y: f64,
+    pub radius: f64,
+}
+
+#[repr(C)]
 pub struct RecordAnswer {
     pub refusal: u64,
     pub disk: Disk,
@@ -48,6 +56,7 @@ extern "C" {
     pub fn volkhidar_glyph(sheet: *const u8, sheet_length: usize, k: usize) -> GlyphAnswer;
     pub fn volkhidar_smallest_disk(list: *mut i16, list_length: usize) -> DiskAnswer;
     pub fn volkhidar_whole_radius(disk: Disk, support: Support) -> RadiusAnswer;
+    pub fn volkhidar_preview(disk: Disk, support: Support) -> PreviewAnswer;
     pub fn volkhidar_write_record(disk: Disk, support: Support, buffer: *mut u8, buffer_length: usize) -> u64;
     pub fn volkhidar_read_record(bytes: *const u8, length: usize) -> RecordAnswer;
     pub fn volkhidar_record_of(text: *const u8, text_length: usize, buffer: *mut u8, buffer_length: usize) -> u64;
@@ -72,6 +81,7 @@ mod tests {
             assert_eq!((write(44), write(43)), (7, 8));
             assert_eq!(buffer, [0xEE; 44]);
             assert_eq!(unsafe { volkhidar_whole_radius(disk, no_set(size)) }.refusal, 7);
+            assert_eq!(unsafe { volkhidar_preview(disk, no_set(size)) }.refusal, 7);
         }
         assert_eq!(unsafe { volkhidar_whole_radius(disk, no_set(1)) }.refusal, 0);
     }

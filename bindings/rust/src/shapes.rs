@@ -75,3 +75,11 @@ pub struct Enclosed {
     /// The count of containment tests; at most (n³ + 5n) / 6 for n points.
     pub tests: u64,
 }
+
+/// The centre and the whole radius as floats.
+#[derive(Clone, Copy, PartialEq, Debug)]
+pub struct Preview {
+    pub x: f64,
+    pub y: f64,
+    pub radius: f64,
+}

@@ -37,7 +37,7 @@ fn lent(disk: &ExpectedDisk, support: &[ExpectedPoint]) -> Option<(Disk, Support
     Some((Disk { x, y, e: disk.e.try_into().ok()?, s: disk.s.try_into().ok()? }, set))
 }
 
-/// The engine on a list, then radius and record of what it found.
+/// The engine on a list, then radius, preview and record of what it found.
 fn compare_list(list: &[i16], name: &str) {
     let (mut left, mut expected_left) = (list.to_vec(), list.to_vec());
     let found = ours(smallest_disk(&mut left));
@@ -54,6 +54,9 @@ fn compare_list(list: &[i16], name: &str) {
 fn compare_figures(disk: Disk, support: SupportSet, name: &str) {
     let (d, t) = (disk_of(disk), points(support));
     assert_eq!(ours(whole_radius(disk, support)), number(figures::whole_radius(&d, &t)), "radius: {name}");
+    let bits = |p: Preview| [p.x, p.y, p.radius].map(f64::to_bits);
+    let expected = number(figures::preview(&d, &t)).map(|p| p.bits());
+    assert_eq!(ours(preview(disk, support)).map(bits), expected, "preview: {name}");
 }
 
 fn compare_writer(disk: Disk, support: SupportSet, room: usize, name: &str) {

@@ -2,7 +2,7 @@
 --
 --   other-size : a size other than 1, 2 and 3 counts no points
 --   no-points  : no record holds a set of no points
---   no-radius, no-writing : so the calls that take a support set refuse it with 7, the writer after 8
+--   no-radius, no-preview, no-writing : so the calls that take a support set refuse it with 7, the writer after 8
 use mathlib.Core.Path.{_≡_, refl, ap}
 use mathlib.Core.Bool.{Bool, true, false, not, _&&_}
 use mathlib.Core.List.{List, []}
@@ -14,6 +14,7 @@ use Rattle.geometry.specs.declared.Point.{Point}
 use Rattle.geometry.specs.declared.Disk.{Disk}
 use Rattle.record.specs.Valid.{valid, validDisk, validPoints}
 use Rattle.record.specs.Radius.{radiusOf}
+use Rattle.preview.specs.Preview.{previewOf}
 use Rattle.record.specs.Bytes.{recordLength}
 use Rattle.record.specs.Writing.{writeOf}
 use Rattle.exports.specs.Support.{counted}
@@ -36,6 +37,9 @@ no-points d = and-false (validDisk d)
 
 pub no-radius : (d : Disk) → radiusOf d [] ≡ refused 7
 no-radius d = rw (no-points d)
+
+pub no-preview : (d : Disk) → previewOf d [] ≡ refused 7
+no-preview d = rw (no-points d)
 
 pub no-writing : (d : Disk) (buf : List ℕ) → writeOf d [] buf ≡ refuseIf (ltb (length buf) recordLength) 8 (refused 7)
 no-writing d buf = rw (no-points d)

@@ -1,13 +1,15 @@
 -- The answers of the exported calls, as the numbers that cross the border.
 --
 --   codeOf o         == 0, or the number of the refusal
---   loadAnswer o, glyphAnswer o, diskAnswer o, radiusAnswer o, recordAnswer o
+--   loadAnswer o, glyphAnswer o, diskAnswer o, radiusAnswer o, previewAnswer o, recordAnswer o
 --                    == 0 and the values of the outcome o; or the number of the refusal, and 0 for everything else
 use mathlib.Core.List.{List}
 use Prim.Native.Nat.{ℕ}
+use lib.Ieee.{Float, binary64, ofBits}
 use Rattle.answers.specs.Outcome.{Outcome, given, refused}
 use Rattle.geometry.specs.declared.Point.{Point}
 use Rattle.geometry.specs.declared.Disk.{Disk}
+use Rattle.preview.specs.declared.Preview.{Preview}
 use Rattle.sheet.specs.Sheet.{Place}
 use Rattle.exports.specs.Support.{noDisk, noSupport, supportOf}
 use Rattle.engine.specs.Engine.{Enclosure}
@@ -15,6 +17,7 @@ use Rattle.exports.specs.declared.answer.LoadAnswer.{LoadAnswer}
 use Rattle.exports.specs.declared.answer.DiskAnswer.{DiskAnswer}
 use Rattle.exports.specs.declared.answer.GlyphAnswer.{GlyphAnswer}
 use Rattle.exports.specs.declared.answer.RadiusAnswer.{RadiusAnswer}
+use Rattle.exports.specs.declared.answer.PreviewAnswer.{PreviewAnswer}
 use Rattle.exports.specs.declared.answer.RecordAnswer.{RecordAnswer}
 
 abbrev pub codeOf : {A : Type 0} → Outcome A → ℕ
@@ -36,6 +39,14 @@ diskAnswer (refused n) = record { refusal = n; disk = noDisk; support = noSuppor
 abbrev pub radiusAnswer : Outcome ℕ → RadiusAnswer
 radiusAnswer (given r) = record { refusal = 0; radius = r }
 radiusAnswer (refused n) = record { refusal = n; radius = 0 }
+
+-- the float 0, whose bits are all 0
+abbrev pub nought : Float
+nought = ofBits binary64 0
+
+abbrev pub previewAnswer : Outcome Preview → PreviewAnswer
+previewAnswer (given p) = record { refusal = 0; x = p .x; y = p .y; radius = p .r }
+previewAnswer (refused n) = record { refusal = n; x = nought; y = nought; radius = nought }
 
 abbrev pub recordAnswer : Outcome (Disk × List Point) → RecordAnswer
 recordAnswer (given dp) = record { refusal = 0; disk = dp .0; support = supportOf (dp .1) }

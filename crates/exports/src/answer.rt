@@ -46,6 +46,14 @@ pub struct RadiusAnswer {
 }
 
 #[repr(C)]
+pub struct PreviewAnswer {
+    pub refusal: u64,
+    pub x: f64,
+    pub y: f64,
+    pub radius: f64,
+}
+
+#[repr(C)]
 pub struct RecordAnswer {
     pub refusal: u64,
     pub disk: Disk,
@@ -81,12 +89,7 @@ pub fn support_of(t: SupportSet) -> Support
             b,
             c: b,
         },
-        SupportSet::Three(a, b, c) => Support {
-            size: 3,
-            a,
-            b,
-            c,
-        },
+        SupportSet::Three(a, b, c) => Support { size: 3, a, b, c },
     }
 }
 

@@ -3,6 +3,7 @@
 mod answer;
 mod enclosing;
 mod loading;
+mod previewing;
 mod radius;
 mod sheet_part;
 mod whole_way;
@@ -11,6 +12,7 @@ mod writing;
 pub use answer::DiskAnswer;
 pub use answer::GlyphAnswer;
 pub use answer::LoadAnswer;
+pub use answer::PreviewAnswer;
 pub use answer::RadiusAnswer;
 pub use answer::RecordAnswer;
 pub use answer::Support;
