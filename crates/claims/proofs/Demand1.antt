@@ -25,6 +25,7 @@ use Rattle.record.specs.Valid.{valid}
 use Rattle.record.specs.Radius.{wholeRadius, radiusOf}
 use Rattle.record.specs.Writing.{writeOf, leftBy}
 use Rattle.record.specs.Reading.{diskIn, pointsIn, readOf}
+use Rattle.preview.specs.Preview.{floats, previewOf}
 use Rattle.claims.specs.Demand1.{Taken, LoaderRules, SheetRules, EngineRules, RecordRules, Demand1}
 use Rattle.claims.proofs.Lines.{lines-taken, faultless}
 use Rattle.claims.proofs.Records.{written, written-valid}
@@ -83,6 +84,9 @@ engine l = (
 radius : (d : Disk) (ps : List Point) → Taken (radiusOf d ps) ↔ (valid d ps ≡ true)
 radius d ps = (λ g. not-false _ (not-refused _ 7 (g .1) .0), λ h. (wholeRadius d, rw h))
 
+preview : (d : Disk) (ps : List Point) → Taken (previewOf d ps) ↔ (valid d ps ≡ true)
+preview d ps = (λ g. not-false _ (not-refused _ 7 (g .1) .0), λ h. (floats d (wholeRadius d), rw h))
+
 writer : (d : Disk) (ps : List Point) (b : List ℕ) → Taken (writeOf d ps b) ↔ ((recordLength ≤ length b) × (valid d ps ≡ true))
 writer d ps b = (λ g. written-valid d ps b (g .1), λ h. (tt, written d ps b (h .1) (h .0)))
 
@@ -103,6 +107,7 @@ demand-one = record {
   engine = engine;
   engine-keeps = λ l n e. list-refused l e;
   radius = radius;
+  preview = preview;
   writer = writer;
   writer-keeps = λ d ps b n e. ap (λ (o : Outcome (Unit {0})). leftBy o d ps b) e;
   reader = reader;

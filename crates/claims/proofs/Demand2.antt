@@ -8,6 +8,7 @@ use Rattle.geometry.specs.declared.Point.{Point}
 use Rattle.geometry.specs.declared.Disk.{Disk}
 use Rattle.geometry.specs.Plane.{allInEmBox}
 use Rattle.geometry.specs.Points.{points}
+use Rattle.geometry.proofs.EmBox.{box-members}
 use Rattle.disks.specs.Smallest.{Smallest}
 use Rattle.disks.proofs.Minimal.{same-refl}
 use Rattle.disks.proofs.Welzl.{smallest}
@@ -15,7 +16,6 @@ use Rattle.disks.proofs.OneWriting.{smallest-same}
 use Rattle.disks.proofs.Answer.{limits}
 use Rattle.disks.proofs.First.{first-support, first-unique}
 use Rattle.engine.specs.Engine.{Enclosure, enclosure, encloseOf}
-use Rattle.engine.proofs.Found.{box-members}
 use Rattle.engine.proofs.Accepted.{Accepted, accepted-list, has-point}
 use Rattle.record.specs.Reading.{readOf}
 use Rattle.record.proofs.RoundTrip.{read-written, written-again}

@@ -1,7 +1,7 @@
 -- Demand 3 holds (specs/Demand3.antt).
 --
 --   procedure-welzls  : the engine's answer is the procedure's
---   answers d S       == what radius and writer give for the disk d and the support set S
+--   answers d S       == what radius, preview and writer give for the disk d and the support set S
 --   worked-is         : the calls on an accepted description, one after another, give the answers for the points that it names
 --   records-equal     : two records worked out are equal exactly where the disks and the first support sets are
 --   demand-three      : Demand3
@@ -11,15 +11,16 @@ use mathlib.Core.Bool.{true}
 use mathlib.Core.List.{List, [], _∷_, List·Permᴰ}
 use Prim.Native.Nat.{ℕ, _+_, _*_, _/_, _%_, _≤_}
 use native.Mathlib.Omega.{arith}
-use lib.Dec.{T}
 use lib.IntN.{ℤ}
 use lib.ListN.{length, take}
 use Rattle.answers.specs.Outcome.{Outcome, given, andThen}
+use Rattle.integers.specs.Between.{true-test}
 use Rattle.geometry.specs.declared.Point.{Point}
 use Rattle.geometry.specs.declared.Disk.{Disk}
 use Rattle.geometry.specs.Plane.{allInEmBox}
 use Rattle.geometry.specs.Points.{points, flat}
-use Rattle.geometry.proofs.PointLists.{length-flat}
+use Rattle.geometry.proofs.EmBox.{members-box}
+use Rattle.geometry.proofs.PointLists.{length-flat, points-of-flat}
 use Rattle.disks.specs.Smallest.{In, Same, Smallest}
 use Rattle.disks.specs.Procedure.{Cover, disk, State, mtf, diskIn, diskOf, testsOf, orderOf}
 use Rattle.disks.specs.Support.{firstSupport}
@@ -35,13 +36,13 @@ use Rattle.description.specs.Description.{loadOf, named}
 use Rattle.description.proofs.Accepted.{load-same, accepted-room, accepted-count, accepted-some, accepted-few, accepted-in-box, accepted-front}
 use Rattle.engine.specs.Engine.{Enclosure, enclosure, encloseOf, listAfter}
 use Rattle.engine.proofs.Checks.{accepted, list-accepted}
-use Rattle.engine.proofs.Found.{members-box, points-of-flat}
 use Rattle.engine.proofs.Accepted.{Accepted, accepted-list, has-point}
 use Rattle.record.specs.Valid.{valid}
 use Rattle.record.specs.Bytes.{recordLength, recordBytes}
 use Rattle.record.specs.Radius.{wholeRadius, radiusOf}
 use Rattle.record.specs.Writing.{writeOf, bufferAfter}
 use Rattle.record.proofs.RoundTrip.{record-injective}
+use Rattle.preview.specs.Preview.{floats, previewOf}
 use Rattle.claims.specs.Demand3.{ProcedureIsWelzls, AcceptedDescription, Answers, worked, WorkedOut, Demand3}
 use Rattle.claims.proofs.ValidAnswer.{valid-answer}
 use Rattle.claims.proofs.Records.{written, in-front, filled}
@@ -122,14 +123,14 @@ enclosed-flat P some most box =
     half n k e h = omega arith
 
 abbrev answers : Disk → List Point → Answers
-answers d S = record { disk-given = d; support = S; radius = wholeRadius d; bytes = recordBytes d S }
+answers d S = record { disk-given = d; support = S; radius = wholeRadius d; shown = floats d (wholeRadius d); bytes = recordBytes d S }
 
 module _ {t : List ℕ} (a : AcceptedDescription t) (l : List ℤ) (b : List ℕ) (long : 8192 ≤ length l) (room : recordLength ≤ length b) where
   loads : loadOf t l ≡ given (a .count)
   loads = loaded a l long
 
   boxed : allInEmBox (named t) ≡ true
-  boxed = members-box (named t) (λ p i. subst T (sym (accepted-in-box t l (a .count) loads p i)) tt)
+  boxed = members-box (named t) (λ p i. true-test (accepted-in-box t l (a .count) loads p i))
 
   some-named : 1 ≤ length (named t)
   some-named = subst (λ (n : ℕ). 1 ≤ n) (accepted-count t l (a .count) loads) (accepted-some t l (a .count) loads)
@@ -150,9 +151,12 @@ module _ {t : List ℕ} (a : AcceptedDescription t) (l : List ℤ) (b : List ℕ
   reaches : radiusOf (diskOf (named t)) (firstSupport (named t)) ≡ given (wholeRadius (diskOf (named t)))
   reaches = rw valid-named
 
+  shows : previewOf (diskOf (named t)) (firstSupport (named t)) ≡ given (floats (diskOf (named t)) (wholeRadius (diskOf (named t))))
+  shows = rw valid-named
+
   worked-is : worked t l b ≡ given (answers (diskOf (named t)) (firstSupport (named t)))
   unfolding worked
-  worked-is = rw (loads, encloses, reaches, writes, in-front (diskOf (named t)) (firstSupport (named t)) b valid-named)
+  worked-is = rw (loads, encloses, reaches, shows, writes, in-front (diskOf (named t)) (firstSupport (named t)) b valid-named)
 
 same-answers : (P Q : List Point) → Same P Q → answers (diskOf P) (firstSupport P) ≡ answers (diskOf Q) (firstSupport Q)
 same-answers P Q s = ap₂ answers (disk-same P Q s) (first-support-same P Q s)

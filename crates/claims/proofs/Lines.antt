@@ -12,7 +12,7 @@ use borrow.Author.Tests.{ne-eqb, lt-leb}
 use lib.Dec.{eqb, leb}
 use lib.ListN.{length}
 use Rattle.answers.specs.Outcome.{Outcome, given, refused, refuseIf}
-use Rattle.answers.proofs.OutcomeLaws.{not-refused}
+use Rattle.answers.proofs.OutcomeLaws.{not-given, not-refused}
 use Rattle.geometry.specs.declared.Point.{Point}
 use Rattle.geometry.specs.Plane.{inEmBox}
 use Rattle.description.specs.Description.{Line, blank, point, fault, pointsOn, byLine}
@@ -41,9 +41,6 @@ lines-taken (point p ∷ ls) n f b few some =
     next : (n k : ℕ) → suc n + k ≡ n + suc k
     next n k = omega arith
 
-clash : {n m : ℕ} → refused n ≡ given m → ⊥
-clash e = let z : _≡_ {A = ℕ} 0 1 = cc in omega arith
-
 pub faultless : (ls : List Line) (n : ℕ) {m : ℕ} → byLine n ls ≡ given m → NoFault ls
 unfolding byLine
 faultless [] n e i h is = List·Memᴰ·not-nil h
@@ -52,7 +49,7 @@ faultless (blank ∷ ls) n e i h is = go (λ k. faultless ls n e i k is) (List·
     go : (List·Memᴰ i ls → ⊥) → (i ≡ blank) ⊎ List·Memᴰ i ls → ⊥
     go f (inl b) = let z : blank ≡ fault = sym b ∙ is in let y : _≡_ {A = ℕ} 0 1 = cc in omega arith
     go f (inr k) = f k
-faultless (fault ∷ ls) n e i h is = clash e
+faultless (fault ∷ ls) n e i h is = not-given e
 faultless (point p ∷ ls) n e i h is = go (λ k. faultless ls (suc n) (not-refused (leb 4096 n) 4 (not-refused (not (inEmBox p)) 3 e .1) .1) i k is) (List·Memᴰ·cases-cons h)
   where
     go : (List·Memᴰ i ls → ⊥) → (i ≡ point p) ⊎ List·Memᴰ i ls → ⊥

@@ -10,12 +10,13 @@ use lib.Dec.{T, leb, eqb}
 use lib.IntN.{ℤ, pos, negsuc, natAbs, _*ℤ_}
 use lib.ListN.{length}
 use lib.Signed.{leZ, _≤ℤ_}
-use Rattle.integers.specs.Between.{between}
+use Rattle.integers.specs.Between.{test-true}
 use Rattle.integers.specs.LowestTerms.{common, divides-x, divides-y, divides-e}
 use Rattle.geometry.specs.declared.Point.{Point}
 use Rattle.geometry.specs.declared.Disk.{Disk}
 use Rattle.geometry.specs.Plane.{inEmBox, allInEmBox}
 use Rattle.geometry.specs.Order.{before}
+use Rattle.geometry.proofs.EmBox.{box-members, members-box}
 use Rattle.disks.specs.Smallest.{In, Smallest}
 use Rattle.disks.specs.Procedure.{diskOf}
 use Rattle.disks.specs.Support.{firstSupport}
@@ -25,21 +26,14 @@ use Rattle.disks.proofs.Welzl.{smallest}
 use Rattle.disks.proofs.Answer.{limits}
 use Rattle.disks.proofs.First.{first-support}
 use Rattle.record.specs.Valid.{scaleInLimit, centreInEmBox, squareInLimit, isLowest, validDisk, oneToThree, rising, validPoints, valid}
-use Rattle.engine.proofs.Found.{box-members, members-box}
 
 -- ---- rows of tests
 
 both : {a b : Bool} → a ≡ true → b ≡ true → a && b ≡ true
 both {b} h k = ap (λ (c : Bool). c && b) h ∙ k
 
-is-true : (b : Bool) → T b → b ≡ true
-is-true true t = refl
-
-is-T : {b : Bool} → b ≡ true → T b
-is-T e = subst T (sym e) tt
-
 test : {a b : ℤ} → a ≤ℤ b → leZ a b ≡ true
-test {a} {b} h = is-true (leZ a b) (h .le)
+test {a} {b} h = test-true (leZ a b) (h .le)
 
 -- ---- the disk
 
@@ -59,7 +53,7 @@ rising-points : (S : List Point) → Rising S → rising S ≡ true
 unfolding rising
 rising-points [] r = refl
 rising-points (p ∷ []) r = refl
-rising-points (p ∷ q ∷ S) r = both (is-true (before p q) (r .0 q (List·Memᴰ·head refl))) (rising-points (q ∷ S) (r .1))
+rising-points (p ∷ q ∷ S) r = both (test-true (before p q) (r .0 q (List·Memᴰ·head refl))) (rising-points (q ∷ S) (r .1))
 
 valid-points : {P : List Point} (S : List Point) → IsSupport P S → ((p : Point) → In p P → T (inEmBox p)) → validPoints S ≡ true
 unfolding validPoints

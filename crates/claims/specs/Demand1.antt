@@ -25,6 +25,7 @@ use Rattle.description.specs.Description as description
 use Rattle.description.specs.Description.{Line, fault, linesRead, named, loadOf}
 use Rattle.sheet.specs.Sheet.{count, directoryEnd, pairs, follow, glyphOf}
 use Rattle.engine.specs.Engine.{encloseOf, listAfter}
+use Rattle.preview.specs.Preview.{previewOf}
 use Rattle.record.specs.Bytes.{recordLength}
 use Rattle.record.specs.Valid.{valid}
 use Rattle.record.specs.Radius.{radiusOf}
@@ -65,6 +66,7 @@ pub record Demand1 : Type 0 where
   pub engine : (l : List ℤ) → Taken (encloseOf l) ↔ EngineRules l
   pub engine-keeps : (l : List ℤ) (n : ℕ) → encloseOf l ≡ refused n → listAfter l ≡ l
   pub radius : (d : Disk) (ps : List Point) → Taken (radiusOf d ps) ↔ (valid d ps ≡ true)
+  pub preview : (d : Disk) (ps : List Point) → Taken (previewOf d ps) ↔ (valid d ps ≡ true)
   pub writer : (d : Disk) (ps : List Point) (b : List ℕ) → Taken (writeOf d ps b) ↔ ((recordLength ≤ length b) × (valid d ps ≡ true))
   pub writer-keeps : (d : Disk) (ps : List Point) (b : List ℕ) (n : ℕ) → writeOf d ps b ≡ refused n → bufferAfter d ps b ≡ b
   pub reader : (bs : List ℕ) → Taken (readOf bs) ↔ RecordRules bs

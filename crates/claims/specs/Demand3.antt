@@ -24,6 +24,8 @@ use Rattle.disks.specs.FirstSupport.{IsFirstSupport}
 use Rattle.description.specs.Description as description
 use Rattle.description.specs.Description.{loadOf, named}
 use Rattle.engine.specs.Engine.{Enclosure, encloseOf, listAfter}
+use Rattle.preview.specs.declared.Preview.{Preview}
+use Rattle.preview.specs.Preview.{previewOf}
 use Rattle.record.specs.Bytes.{recordLength}
 use Rattle.record.specs.Radius.{radiusOf}
 use Rattle.record.specs.Writing.{writeOf, bufferAfter}
@@ -54,6 +56,7 @@ pub record Answers : Type 0 where
   pub disk-given : Disk
   pub support : List Point
   pub radius : ℕ
+  pub shown : Preview
   pub bytes : List ℕ
 
 unfoldable pub worked : List ℕ → List ℤ → List ℕ → Outcome Answers
@@ -61,8 +64,9 @@ worked t l b =
     andThen (loadOf t l) (λ n.
     andThen (encloseOf (take (2 * n) (description.listAfter t l))) (λ e.
     andThen (radiusOf (e .disk) (e .support)) (λ r.
+    andThen (previewOf (e .disk) (e .support)) (λ p.
     andThen (writeOf (e .disk) (e .support) b) (λ done.
-    given (record { disk-given = e .disk; support = e .support; radius = r; bytes = take recordLength (bufferAfter (e .disk) (e .support) b) })))))
+    given (record { disk-given = e .disk; support = e .support; radius = r; shown = p; bytes = take recordLength (bufferAfter (e .disk) (e .support) b) }))))))
 
 -- ---- records worked out
 

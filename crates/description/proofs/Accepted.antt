@@ -7,7 +7,6 @@
 --   accepted-in-box           : each of them is in the em box
 --   accepted-front, accepted-rest : they stand at the front of the list, and the rest of it is as it was
 --   accepted-points           : read back from the front of the list they are those named
---   points-flat, length-flat  : points from numbers that were points
 use Prim.Native.Nat.{ℕ, suc, _+_, _*_, _≤_, _<_}
 use mathlib.Core.Path.{_≡_, refl, sym, _∙_, ap}
 use mathlib.Core.Logic.{_⊎_, inl, inr}
@@ -23,32 +22,10 @@ use Rattle.answers.specs.Outcome.{Outcome, given, refused, refuseIf}
 use Rattle.geometry.specs.declared.Point.{Point}
 use Rattle.geometry.specs.Plane.{inEmBox}
 use Rattle.geometry.specs.Points.{points, flat, firstPoints}
+use Rattle.answers.proofs.OutcomeLaws.{not-given, given-same, not-refused}
+use Rattle.geometry.proofs.PointLists.{length-flat, points-of-flat}
 use Rattle.description.specs.Description.{Line, blank, point, fault, linesRead, pointsOn, named, byLine, loadOf, listAfter}
 use Rattle.description.proofs.Loading.{load-judged, after-given}
-
--- ---- points as numbers
-
-pub points-flat : (ps : List Point) → points (flat ps) ≡ ps
-unfolding points flat
-points-flat [] = refl
-points-flat (p ∷ ps) = ap (λ (qs : List Point). p ∷ qs) (points-flat ps)
-
-pub length-flat : (ps : List Point) → length (flat ps) ≡ 2 * length ps
-unfolding flat
-length-flat [] = refl
-length-flat (p ∷ ps) = omega (arith, length-flat ps)
-
--- ---- a check that was passed
-
-not-given : {A : Type 0} {k : ℕ} {m : A} → refused k ≡ given m → ⊥
-not-given h = let clash : _≡_ {A = ℕ} 0 1 = cc in omega arith
-
-given-same : {A : Type 0} {a b : A} → given a ≡ given b → a ≡ b
-given-same h = cc
-
-passed : {A : Type 0} (b : Bool) (k : ℕ) (rest : Outcome A) {m : A} → refuseIf b k rest ≡ given m → (b ≡ false) × (rest ≡ given m)
-passed true k rest h = absurd (not-given h)
-passed false k rest h = (refl, h)
 
 -- ---- the lines
 
@@ -70,7 +47,7 @@ module _ (n m : ℕ) (p : Point) (ls : List Line) (k : inEmBox p ≡ true) (r : 
 passed-lines : (ls : List Line) (n m : ℕ) → n ≤ 4096 → byLine n ls ≡ given m → Passed n m ls
 unfolding byLine pointsOn
 passed-lines [] n m l h =
-    let end = passed (eqb n 0) 5 (given n) h in
+    let end = not-refused (eqb n 0) 5 h in
     let same : n ≡ m = given-same (end .1) in
     record { count = omega arith; some-point = omega (arith, eqb-false n 0 (end .0)); few = omega arith; in-box = λ p k. absurd (List·Memᴰ·not-nil k) }
 passed-lines (blank ∷ ls) n m l h =
@@ -78,8 +55,8 @@ passed-lines (blank ∷ ls) n m l h =
     record { count = r .count; some-point = r .some-point; few = r .few; in-box = r .in-box }
 passed-lines (fault ∷ ls) n m l h = absurd (not-given h)
 passed-lines (point p ∷ ls) n m l h =
-    let box = passed (not (inEmBox p)) 3 (refuseIf (leb 4096 n) 4 (byLine (suc n) ls)) h in
-    let room = passed (leb 4096 n) 4 (byLine (suc n) ls) (box .1) in
+    let box = not-refused (not (inEmBox p)) 3 h in
+    let room = not-refused (leb 4096 n) 4 (box .1) in
     let below : n < 4096 = leb-false 4096 n (room .0) in
     passed-point n m p ls (not-false (inEmBox p) (box .0)) (passed-lines ls (suc n) m (omega arith) (room .1))
 
@@ -96,11 +73,11 @@ module _ (text : List ℕ) (list : List ℤ) (n : ℕ) (accepted : loadOf text l
 
   pub accepted-room : 8192 ≤ length list
   unfolding loadOf
-  accepted-room = ltb-false (length list) 8192 (passed (ltb (length list) 8192) 8 by-text accepted .0)
+  accepted-room = ltb-false (length list) 8192 (not-refused (ltb (length list) 8192) 8 {rest = by-text} accepted .0)
 
   pub accepted-short : length text ≤ 65535
   unfolding loadOf
-  accepted-short = ltb-false 65535 (length text) (passed (ltb 65535 (length text)) 1 (byLine 0 (linesRead text)) (passed (ltb (length list) 8192) 8 by-text accepted .1) .0)
+  accepted-short = ltb-false 65535 (length text) (not-refused (ltb 65535 (length text)) 1 {rest = byLine 0 (linesRead text)} (not-refused (ltb (length list) 8192) 8 {rest = by-text} accepted .1) .0)
 
   all-passed : Passed 0 n (linesRead text)
   all-passed = passed-lines (linesRead text) 0 n (omega arith) (sym (load-judged text list accepted-room accepted-short) ∙ accepted)
@@ -130,4 +107,4 @@ module _ (text : List ℕ) (list : List ℤ) (n : ℕ) (accepted : loadOf text l
       ∙ ap (λ (k : ℕ). drop k list) front-length
 
   pub accepted-points : firstPoints n (listAfter text list) ≡ named text
-  accepted-points = ap points accepted-front ∙ points-flat (named text)
+  accepted-points = ap points accepted-front ∙ points-of-flat (named text)

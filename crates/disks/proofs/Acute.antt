@@ -1,6 +1,6 @@
 -- Which pairs and triples are support sets: what a search can test.
 --
---   corner a b c      == (b − a)·(c − a): positive where the angle at a is acute
+--   angle a b c      == (b − a)·(c − a): positive where the angle at a is acute
 --   Kind a b c F      == F is the disk over one of the three sides; or the three are on its boundary and all angles are acute
 --   pair-own, blunt   : the disk over b, c is strongly minimal for b and c, and so for a too where the angle at a is not acute
 --   kind              : a strongly minimal disk of three points is of one of the two kinds
@@ -22,8 +22,8 @@ use Rattle.disks.proofs.Unique.{strong-unique, leave-out, square-positi
 use Rattle.disks.proofs.Arms.{dot, cross, flip}
 use Rattle.disks.proofs.Weights.{arm, boundary-length, three-strong}
 
-abbrev pub corner : Point → Point → Point → ℤ
-corner a b c = (b .x -ℤ a .x) *ℤ (c .x -ℤ a .x) +ℤ (b .y -ℤ a .y) *ℤ (c .y -ℤ a .y)
+abbrev pub angle : Point → Point → Point → ℤ
+angle a b c = (b .x -ℤ a .x) *ℤ (c .x -ℤ a .x) +ℤ (b .y -ℤ a .y) *ℤ (c .y -ℤ a .y)
 
 -- ---- the disk over a side
 
@@ -45,11 +45,11 @@ pair-own b c = record {
     Held : Point → Type 0
     Held p = value (pairDisk b c) p ≤ℤ pos 0
 
-pair-corner : (a b c : Point) → value (pairDisk b c) a ≡ pos 2 *ℤ corner a b c
-pair-corner a b c = ring (a .x ∷ a .y ∷ b .x ∷ b .y ∷ c .x ∷ c .y ∷ []) (search poly depth 30) tt
+pair-angle : (a b c : Point) → value (pairDisk b c) a ≡ pos 2 *ℤ angle a b c
+pair-angle a b c = ring (a .x ∷ a .y ∷ b .x ∷ b .y ∷ c .x ∷ c .y ∷ []) (search poly depth 30) tt
 
-pub blunt : (a b c : Point) → corner a b c ≤ℤ pos 0 → StronglyMinimal (a ∷ b ∷ c ∷ []) [] (pairDisk b c)
-blunt a b c h = held (pair-own b c) (subst (λ (z : ℤ). z ≤ℤ pos 0) (sym (pair-corner a b c)) (twice (corner a b c) h))
+pub blunt : (a b c : Point) → angle a b c ≤ℤ pos 0 → StronglyMinimal (a ∷ b ∷ c ∷ []) [] (pairDisk b c)
+blunt a b c h = held (pair-own b c) (subst (λ (z : ℤ). z ≤ℤ pos 0) (sym (pair-angle a b c)) (twice (angle a b c) h))
   where
     twice : (d : ℤ) → d ≤ℤ pos 0 → (pos 2 *ℤ d) ≤ℤ pos 0
     twice d k = nonneg (d ∷ []) (nn 2 ⊠ le k) (search poly depth 30) tt
@@ -60,7 +60,7 @@ pub data Kind (a b c : Point) (F : Lifted) : Type 0 where
   side-bc : Multiple F (pairDisk b c) → Kind a b c F
   side-ac : Multiple F (pairDisk a c) → Kind a b c F
   side-ab : Multiple F (pairDisk a b) → Kind a b c F
-  acute : value F a ≡ pos 0 → value F b ≡ pos 0 → value F c ≡ pos 0 → pos 0 <ℤ corner a b c → pos 0 <ℤ corner b a c → pos 0 <ℤ corner c a b
+  acute : value F a ≡ pos 0 → value F b ≡ pos 0 → value F c ≡ pos 0 → pos 0 <ℤ angle a b c → pos 0 <ℤ angle b a c → pos 0 <ℤ angle c a b
       → Kind a b c F
 
 second-first : (a b c : Point) → List·Permᴰ (a ∷ b ∷ c ∷ []) (b ∷ a ∷ c ∷ [])
@@ -70,8 +70,8 @@ third-first : (a b c : Point) → List·Permᴰ (a ∷ b ∷ c ∷ []) (c ∷ a 
 third-first a b c = List·Permᴰ·trans (List·Permᴰ·cons refl (List·Permᴰ·swap refl refl)) (List·Permᴰ·swap refl refl)
 
 pub kind : (a b c : Point) {F : Lifted} → StronglyMinimal (a ∷ b ∷ c ∷ []) [] F → Kind a b c F
-kind a b c {F} m = go (compared (value F a) (pos 0)) (compared (value F b) (pos 0)) (compared (value F c) (pos 0)) (≤-or-< (corner a b c) (pos 0))
-    (≤-or-< (corner b a c) (pos 0)) (≤-or-< (corner c a b) (pos 0))
+kind a b c {F} m = go (compared (value F a) (pos 0)) (compared (value F b) (pos 0)) (compared (value F c) (pos 0)) (≤-or-< (angle a b c) (pos 0))
+    (≤-or-< (angle b a c) (pos 0)) (≤-or-< (angle c a b) (pos 0))
   where
     m-b : StronglyMinimal (b ∷ a ∷ c ∷ []) [] F
     m-b = strong-same (perm-same (second-first a b c)) m
@@ -80,8 +80,8 @@ kind a b c {F} m = go (compared (value F a) (pos 0)) (compared (value F b) (pos 
     m-c = strong-same (perm-same (third-first a b c)) m
 
     go : Compared (value F a) (pos 0) → Compared (value F b) (pos 0) → Compared (value F c) (pos 0)
-        → (corner a b c ≤ℤ pos 0) ⊎ (pos 0 <ℤ corner a b c) → (corner b a c ≤ℤ pos 0) ⊎ (pos 0 <ℤ corner b a c)
-        → (corner c a b ≤ℤ pos 0) ⊎ (pos 0 <ℤ corner c a b) → Kind a b c F
+        → (angle a b c ≤ℤ pos 0) ⊎ (pos 0 <ℤ angle a b c) → (angle b a c ≤ℤ pos 0) ⊎ (pos 0 <ℤ angle b a c)
+        → (angle c a b ≤ℤ pos 0) ⊎ (pos 0 <ℤ angle c a b) → Kind a b c F
     go (less h) vb vc ka kb kc = side-bc (strong-unique (leave-out m h) (pair-own b c))
     go (more h) vb vc ka kb kc = <-≤-clash h (m-b .feasible .holds a (List·Memᴰ·tail (List·Memᴰ·head refl)))
     go (same za) (less h) vc ka kb kc = side-ac (strong-unique (leave-out m-b h) (pair-own a c))
@@ -95,16 +95,16 @@ kind a b c {F} m = go (compared (value F a) (pos 0)) (compared (value F b) (pos 
 
 -- ---- angles and arms
 
--- arms of one length: twice the triangle, times a turn of two arms, is the side squared times the corner
-turn-corner : (A B C : Point) (s : ℤ) → dot A A ≡ s → dot B B ≡ s → dot C C ≡ s
+-- arms of one length: twice the triangle, times a turn of two arms, is the side squared times the angle
+turn-angle : (A B C : Point) (s : ℤ) → dot A A ≡ s → dot B B ≡ s → dot C C ≡ s
     → (pos 2 *ℤ (cross A B +ℤ cross B C +ℤ cross C A)) *ℤ cross B C
-    ≡ ((C .x -ℤ B .x) *ℤ (C .x -ℤ B .x) +ℤ (C .y -ℤ B .y) *ℤ (C .y -ℤ B .y)) *ℤ corner A B C
-turn-corner A B C s ha hb hc = linear (A .x ∷ A .y ∷ B .x ∷ B .y ∷ C .x ∷ C .y ∷ s ∷ [])
+    ≡ ((C .x -ℤ B .x) *ℤ (C .x -ℤ B .x) +ℤ (C .y -ℤ B .y) *ℤ (C .y -ℤ B .y)) *ℤ angle A B C
+turn-angle A B C s ha hb hc = linear (A .x ∷ A .y ∷ B .x ∷ B .y ∷ C .x ∷ C .y ∷ s ∷ [])
     (eqn (negℤ (dot B B -ℤ dot B C) -ℤ (dot C C -ℤ dot B C)) ha & eqn ((dot C C -ℤ dot B C) -ℤ (dot C A -ℤ dot A B)) hb
     & eqn ((dot B B -ℤ dot B C) +ℤ (dot C A -ℤ dot A B)) hc) (search poly depth 30) tt
 
-arm-corner : (F : Lifted) (a b c : Point) → corner (arm F a) (arm F b) (arm F c) ≡ (F .e *ℤ F .e) *ℤ corner a b c
-arm-corner F a b c = ring (F .e ∷ F .cx ∷ F .cy ∷ a .x ∷ a .y ∷ b .x ∷ b .y ∷ c .x ∷ c .y ∷ []) (search poly depth 30) tt
+arm-angle : (F : Lifted) (a b c : Point) → angle (arm F a) (arm F b) (arm F c) ≡ (F .e *ℤ F .e) *ℤ angle a b c
+arm-angle F a b c = ring (F .e ∷ F .cx ∷ F .cy ∷ a .x ∷ a .y ∷ b .x ∷ b .y ∷ c .x ∷ c .y ∷ []) (search poly depth 30) tt
 
 -- a vector with a positive product is not zero
 not-zero : (u v m n : ℤ) → pos 0 <ℤ (u *ℤ m +ℤ v *ℤ n) → pos 0 <ℤ (u *ℤ u +ℤ v *ℤ v)
@@ -136,8 +136,8 @@ sign-against w x n d e hn hd hw = go (≤-or-< (pos 0) x)
 sign-none : {X : Type 0} (w x n d : ℤ) → (pos 2 *ℤ w) *ℤ x ≡ n *ℤ d → pos 0 <ℤ n → pos 0 <ℤ d → pos 0 ≡ w → X
 sign-none w x n d e hn hd z = clash (w ∷ x ∷ n ∷ d ∷ []) (lt hn ⊠ lt hd ⊞ lt hn ⊞ lt hd ⊞ eq (pos 1) e ⊞ eq (pos 2 *ℤ x) z) (search poly depth 30) tt
 
-corner-from : (e w x n d k : ℤ) → (pos 2 *ℤ w) *ℤ x ≡ n *ℤ d → d ≡ (e *ℤ e) *ℤ k → pos 0 <ℤ w → pos 0 <ℤ x → pos 0 ≤ℤ n → pos 0 <ℤ k
-corner-from e w x n d k h q hw hx hn = go (≤-or-< k (pos 0))
+angle-from : (e w x n d k : ℤ) → (pos 2 *ℤ w) *ℤ x ≡ n *ℤ d → d ≡ (e *ℤ e) *ℤ k → pos 0 <ℤ w → pos 0 <ℤ x → pos 0 ≤ℤ n → pos 0 <ℤ k
+angle-from e w x n d k h q hw hx hn = go (≤-or-< k (pos 0))
   where
     go : (k ≤ℤ pos 0) ⊎ (pos 0 <ℤ k) → pos 0 <ℤ k
     go (inr l) = l
@@ -163,26 +163,26 @@ module _ (F : Lifted) (proper : pos 0 <ℤ F .e) (a b c : Point) (ha : value F a
   abbrev side : Point → Point → ℤ
   side p q = (q .x -ℤ p .x) *ℤ (q .x -ℤ p .x) +ℤ (q .y -ℤ p .y) *ℤ (q .y -ℤ p .y)
 
-  at-a : (pos 2 *ℤ area) *ℤ cross B C ≡ side B C *ℤ corner A B C
-  at-a = turn-corner A B C (squaredRadius F) (boundary-length F a ha) (boundary-length F b hb) (boundary-length F c hc)
+  at-a : (pos 2 *ℤ area) *ℤ cross B C ≡ side B C *ℤ angle A B C
+  at-a = turn-angle A B C (squaredRadius F) (boundary-length F a ha) (boundary-length F b hb) (boundary-length F c hc)
 
-  at-b : (pos 2 *ℤ area) *ℤ cross C A ≡ side C A *ℤ corner B C A
-  at-b = ap (λ (w : ℤ). (pos 2 *ℤ w) *ℤ cross C A) (rotated (cross A B) (cross B C) (cross C A)) ∙ turn-corner B C A (squaredRadius F)
+  at-b : (pos 2 *ℤ area) *ℤ cross C A ≡ side C A *ℤ angle B C A
+  at-b = ap (λ (w : ℤ). (pos 2 *ℤ w) *ℤ cross C A) (rotated (cross A B) (cross B C) (cross C A)) ∙ turn-angle B C A (squaredRadius F)
       (boundary-length F b hb) (boundary-length F c hc) (boundary-length F a ha)
 
-  at-c : (pos 2 *ℤ area) *ℤ cross A B ≡ side A B *ℤ corner C A B
-  at-c = ap (λ (w : ℤ). (pos 2 *ℤ w) *ℤ cross A B) (sym (rotated (cross C A) (cross A B) (cross B C))) ∙ turn-corner C A B (squaredRadius F)
+  at-c : (pos 2 *ℤ area) *ℤ cross A B ≡ side A B *ℤ angle C A B
+  at-c = ap (λ (w : ℤ). (pos 2 *ℤ w) *ℤ cross A B) (sym (rotated (cross C A) (cross A B) (cross B C))) ∙ turn-angle C A B (squaredRadius F)
       (boundary-length F c hc) (boundary-length F a ha) (boundary-length F b hb)
 
-  module _ (ka : pos 0 <ℤ corner a b c) (kb : pos 0 <ℤ corner b c a) (kc : pos 0 <ℤ corner c a b) where
-    arm-a : pos 0 <ℤ corner A B C
-    arm-a = subst (λ (z : ℤ). pos 0 <ℤ z) (sym (arm-corner F a b c)) (*-pos (square-positive proper) ka)
+  module _ (ka : pos 0 <ℤ angle a b c) (kb : pos 0 <ℤ angle b c a) (kc : pos 0 <ℤ angle c a b) where
+    arm-a : pos 0 <ℤ angle A B C
+    arm-a = subst (λ (z : ℤ). pos 0 <ℤ z) (sym (arm-angle F a b c)) (*-pos (square-positive proper) ka)
 
-    arm-b : pos 0 <ℤ corner B C A
-    arm-b = subst (λ (z : ℤ). pos 0 <ℤ z) (sym (arm-corner F b c a)) (*-pos (square-positive proper) kb)
+    arm-b : pos 0 <ℤ angle B C A
+    arm-b = subst (λ (z : ℤ). pos 0 <ℤ z) (sym (arm-angle F b c a)) (*-pos (square-positive proper) kb)
 
-    arm-c : pos 0 <ℤ corner C A B
-    arm-c = subst (λ (z : ℤ). pos 0 <ℤ z) (sym (arm-corner F c a b)) (*-pos (square-positive proper) kc)
+    arm-c : pos 0 <ℤ angle C A B
+    arm-c = subst (λ (z : ℤ). pos 0 <ℤ z) (sym (arm-angle F c a b)) (*-pos (square-positive proper) kc)
 
     side-a : pos 0 <ℤ side B C
     side-a = not-zero (C .x -ℤ B .x) (C .y -ℤ B .y) (A .x -ℤ B .x) (A .y -ℤ B .y) arm-b
@@ -198,24 +198,24 @@ module _ (F : Lifted) (proper : pos 0 <ℤ F .e) (a b c : Point) (ha : value F a
       where
         go : Compared (pos 0) area → StronglyMinimal (a ∷ b ∷ c ∷ []) [] F
         go (less h) = three-strong F proper a b c ha hb hc
-            (sign-with area (cross A B) (side A B) (corner C A B) at-c side-c arm-c h)
-            (sign-with area (cross B C) (side B C) (corner A B C) at-a side-a arm-a h)
-            (sign-with area (cross C A) (side C A) (corner B C A) at-b side-b arm-b h)
-        go (same z) = sign-none area (cross B C) (side B C) (corner A B C) at-a side-a arm-a z
+            (sign-with area (cross A B) (side A B) (angle C A B) at-c side-c arm-c h)
+            (sign-with area (cross B C) (side B C) (angle A B C) at-a side-a arm-a h)
+            (sign-with area (cross C A) (side C A) (angle B C A) at-b side-b arm-b h)
+        go (same z) = sign-none area (cross B C) (side B C) (angle A B C) at-a side-a arm-a z
         go (more h) = strong-same (perm-same (List·Permᴰ·cons refl (List·Permᴰ·swap refl refl))) (three-strong F proper a c b ha hc hb
-            (flip C A (sign-against area (cross C A) (side C A) (corner B C A) at-b side-b arm-b h))
-            (flip B C (sign-against area (cross B C) (side B C) (corner A B C) at-a side-a arm-a h))
-            (flip A B (sign-against area (cross A B) (side A B) (corner C A B) at-c side-c arm-c h)))
+            (flip C A (sign-against area (cross C A) (side C A) (angle B C A) at-b side-b arm-b h))
+            (flip B C (sign-against area (cross B C) (side B C) (angle A B C) at-a side-a arm-a h))
+            (flip A B (sign-against area (cross A B) (side A B) (angle C A B) at-c side-c arm-c h)))
 
   -- the centre strictly inside the triangle: all angles are acute
   pub around-acute : pos 0 <ℤ cross A B → pos 0 <ℤ cross B C → pos 0 <ℤ cross C A
-      → (pos 0 <ℤ corner a b c) × (pos 0 <ℤ corner b c a) × (pos 0 <ℤ corner c a b)
+      → (pos 0 <ℤ angle a b c) × (pos 0 <ℤ angle b c a) × (pos 0 <ℤ angle c a b)
   around-acute wc wa wb = (
-    corner-from (F .e) area (cross B C) (side B C) (corner A B C) (corner a b c) at-a (arm-corner F a b c) whole wa
+    angle-from (F .e) area (cross B C) (side B C) (angle A B C) (angle a b c) at-a (arm-angle F a b c) whole wa
         (sq (C .x -ℤ B .x) ⊞ sq (C .y -ℤ B .y)),
-    corner-from (F .e) area (cross C A) (side C A) (corner B C A) (corner b c a) at-b (arm-corner F b c a) whole wb
+    angle-from (F .e) area (cross C A) (side C A) (angle B C A) (angle b c a) at-b (arm-angle F b c a) whole wb
         (sq (A .x -ℤ C .x) ⊞ sq (A .y -ℤ C .y)),
-    corner-from (F .e) area (cross A B) (side A B) (corner C A B) (corner c a b) at-c (arm-corner F c a b) whole wc
+    angle-from (F .e) area (cross A B) (side A B) (angle C A B) (angle c a b) at-c (arm-angle F c a b) whole wc
         (sq (B .x -ℤ A .x) ⊞ sq (B .y -ℤ A .y)),
   )
     where

@@ -173,15 +173,15 @@ circle-lowered a b c = by-sign a (C.turn a b c) (C.gx a b c) (C.gy a b c) ∙ ap
     (sym (twice-negative (C.turn a b c)))
 
 -- with room in R, whatever it is; R of three where the lifted disk is a disk
-pub boundary-cover : (R : List Point) → length R ≤ 2 → boundaryDisk R ≡ coverOf (L.rimDisk R)
-unfolding boundaryDisk coverBy L.rimDisk diameterDisk
+pub boundary-cover : (R : List Point) → length R ≤ 2 → boundaryDisk R ≡ coverOf (L.boundaryForm R)
+unfolding boundaryDisk coverBy L.boundaryForm diameterDisk
 boundary-cover [] h = refl
 boundary-cover (a ∷ []) h = ap disk (sym (lowest-same refl refl refl (ap natAbs (point-radius a)) ∙ one-lowest a))
 boundary-cover (a ∷ b ∷ []) h = ap disk (lowest-same refl refl refl (ap natAbs (sym (pair-radius a b))))
 boundary-cover (a ∷ b ∷ c ∷ R) h = absurd (omega arith)
 
-pub full-cover : (R : List Point) → length R ≡ 3 → pos 0 <ℤ L.rimDisk R .e → boundaryDisk R ≡ coverOf (L.rimDisk R)
-unfolding boundaryDisk L.rimDisk
+pub full-cover : (R : List Point) → length R ≡ 3 → pos 0 <ℤ L.boundaryForm R .e → boundaryDisk R ≡ coverOf (L.boundaryForm R)
+unfolding boundaryDisk L.boundaryForm
 full-cover [] h k = absurd (omega arith)
 full-cover (a ∷ []) h k = absurd (omega arith)
 full-cover (a ∷ b ∷ []) h k = absurd (omega arith)

@@ -23,7 +23,7 @@ use Rattle.disks.proofs.Lifted.{Lifted, value, noDisk, value-none}
 use Rattle.disks.proofs.Minimal.{In, Feasible, StronglyMinimal, Below, Same, same-sym, feasible-same, strong-same, strong-below, none-below, through, to-boundary, step, held}
 use Rattle.disks.proofs.Base.{point-strong, pair-strong, positive-one}
 use Rattle.disks.proofs.Triple.{Different, triple-strong}
-use Rattle.disks.proofs.LiftedProcedure.{State, rimDisk, outside, tested, turn-at, one-by-one, start, runWith, run, mtf, most}
+use Rattle.disks.proofs.LiftedProcedure.{State, boundaryForm, outside, tested, turn-at, one-by-one, start, runWith, run, mtf, most}
 use Rattle.disks.proofs.Lists.{perm-same, perm-length, last-first}
 
 -- ---- what was found
@@ -49,16 +49,16 @@ found-strong nothing h = absurd (omega arith)
 
 -- ---- the base
 
-pub base-found : (R : List Point) → length R ≤ 2 → Found [] R (rimDisk R)
-unfolding rimDisk
+pub base-found : (R : List Point) → length R ≤ 2 → Found [] R (boundaryForm R)
+unfolding boundaryForm
 base-found [] h = nothing
 base-found (a ∷ []) h = found (point-strong a)
 base-found (a ∷ b ∷ []) h = found (pair-strong a b)
 base-found (a ∷ b ∷ c ∷ []) h = absurd (omega arith)
 base-found (a ∷ b ∷ c ∷ d ∷ R) h = absurd (omega arith)
 
-pub full-found : {P : List Point} (R : List Point) {W : Lifted} → length R ≡ 3 → Feasible P R W → Different R → StronglyMinimal P R (rimDisk R)
-unfolding rimDisk
+pub full-found : {P : List Point} (R : List Point) {W : Lifted} → length R ≡ 3 → Feasible P R W → Different R → StronglyMinimal P R (boundaryForm R)
+unfolding boundaryForm
 full-found [] h f d = absurd (omega arith)
 full-found (a ∷ []) h f d = absurd (omega arith)
 full-found (a ∷ b ∷ []) h f d = absurd (omega arith)

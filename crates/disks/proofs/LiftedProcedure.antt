@@ -1,6 +1,6 @@
 -- The procedure of specs/ over lifted disks, where a test is one sign. Bridge.antt says that the two agree.
 --
---   rimDisk R            == the lifted disk with R on its boundary, for R of none to three points
+--   boundaryForm R            == the lifted disk with R on its boundary, for R of none to three points
 --   outside F p          == the test: value F p is positive
 --   runWith k R P        == disk, count and list of the procedure on P with R fixed and room for k more; `mtf P` from no point fixed
 --   most k n             == the most tests that a run with room for k can make on n points
@@ -16,12 +16,12 @@ use Rattle.disks.proofs.Base.{pointDisk, pairDisk}
 use Rattle.disks.proofs.Triple.{tripleDisk}
 
 -- a set has three points at most: the last clause is never reached
-unfoldable pub rimDisk : List Point → Lifted
-rimDisk [] = noDisk
-rimDisk (a ∷ []) = pointDisk a
-rimDisk (a ∷ b ∷ []) = pairDisk a b
-rimDisk (a ∷ b ∷ c ∷ []) = tripleDisk a b c
-rimDisk (a ∷ b ∷ c ∷ d ∷ R) = noDisk
+unfoldable pub boundaryForm : List Point → Lifted
+boundaryForm [] = noDisk
+boundaryForm (a ∷ []) = pointDisk a
+boundaryForm (a ∷ b ∷ []) = pairDisk a b
+boundaryForm (a ∷ b ∷ c ∷ []) = tripleDisk a b c
+boundaryForm (a ∷ b ∷ c ∷ d ∷ R) = noDisk
 
 unfoldable pub outside : Lifted → Point → Bool
 outside F p = ltZ (pos 0) (value F p)
@@ -49,7 +49,7 @@ one-by-one f s [] = s
 one-by-one f s (p ∷ ps) = one-by-one f (f s p) ps
 
 abbrev pub start : List Point → List Point → State
-start R P = record { disk = rimDisk R; count = 0; left = P }
+start R P = record { disk = boundaryForm R; count = 0; left = P }
 
 -- the first argument is the room that is left in the set: at 0 the set has three
 unfoldable pub runWith : ℕ → List Point → List Point → State

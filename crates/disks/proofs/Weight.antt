@@ -14,7 +14,7 @@ use Rattle.integers.specs.Order.{≤-of-<, nonneg, lt, nn, _⊞_, _⊠_}
 use Rattle.geometry.specs.declared.Point.{Point}
 use Rattle.disks.proofs.Minimal.{In, none-of, also}
 use Rattle.disks.proofs.Limits.{Box, triple-weight}
-use Rattle.disks.proofs.LiftedProcedure.{State, rimDisk, outside, tested, turn-at, one-by-one, start, runWith}
+use Rattle.disks.proofs.LiftedProcedure.{State, boundaryForm, outside, tested, turn-at, one-by-one, start, runWith}
 
 module _ (x0 y0 l : ℤ) (hl : pos 0 <ℤ l) where
   abbrev pub Boxed : List Point → Type 0
@@ -33,8 +33,8 @@ module _ (x0 y0 l : ℤ) (hl : pos 0 <ℤ l) where
   two-small : pos 2 ≤ℤ (pos 2 *ℤ (l *ℤ l))
   two-small = nonneg (l ∷ []) (nn 2 ⊠ (lt hl ⊠ lt hl) ⊞ nn 4 ⊠ lt hl) (search poly depth 30) tt
 
-  boundary-weight : (R : List Point) → Boxed R → rimDisk R .e ≤ℤ (pos 2 *ℤ (l *ℤ l))
-  unfolding rimDisk
+  boundary-weight : (R : List Point) → Boxed R → boundaryForm R .e ≤ℤ (pos 2 *ℤ (l *ℤ l))
+  unfolding boundaryForm
   boundary-weight [] h = zero-small
   boundary-weight (a ∷ []) h = one-small
   boundary-weight (a ∷ b ∷ []) h = two-small

@@ -1,3 +1,4 @@
 pub mod Coordinates
 pub mod PointLists
 pub mod PointOrder
+pub mod EmBox

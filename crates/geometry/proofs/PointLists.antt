@@ -53,6 +53,11 @@ unfolding points flat
 points-flat [] rest = refl
 points-flat (p ∷ ps) rest = ap {B = List Point} (λ qs. p ∷ qs) (points-flat ps rest)
 
+pub points-of-flat : (ps : List Point) → points (flat ps) ≡ ps
+unfolding points flat
+points-of-flat [] = refl
+points-of-flat (p ∷ ps) = ap {B = List Point} (λ qs. p ∷ qs) (points-of-flat ps)
+
 pub flat-points : (l : List ℤ) → length l % 2 ≡ 0 → flat (points l) ≡ l
 unfolding points flat
 flat-points [] h = refl

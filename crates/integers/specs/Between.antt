@@ -3,13 +3,15 @@
 --   between lo z hi      == lo ≤ z ≤ hi
 --   stop, pass           : of a row a && b, the first test that fails decides
 --   first, rest          : a row that held, taken apart
+--   test-true, true-test : a test that holds, as `T` and as an equation
 --   below, not-below     : `ltZ a b` decides `leZ b a`
 --   between-size         : a number between lo and hi is no larger than both together
-use mathlib.Core.Path.{_≡_, refl, sym}
+use mathlib.Core.Path.{_≡_, refl, sym, subst}
 use mathlib.Core.Bool.{Bool, true, false, _&&_, true≢false}
 use Prim.Native.Nat.{_+_, _≤_}
 use native.Mathlib.Omega.{arith}
 use borrow.Author.Tests.{le-leb, lt-leb, ltb-true, ltb-false, leb-true}
+use lib.Dec.{T}
 use lib.IntN.{ℤ, pos, negsuc, natAbs}
 use lib.Signed.{ltZ, leZ}
 
@@ -33,6 +35,12 @@ first false b h = h
 pub rest : (a b : Bool) → a && b ≡ true → b ≡ true
 rest true b h = h
 rest false b h = absurd (true≢false (sym h))
+
+pub test-true : (b : Bool) → T b → b ≡ true
+test-true true t = refl
+
+pub true-test : {b : Bool} → b ≡ true → T b
+true-test e = subst T (sym e) tt
 
 -- ---- the order by its tests
 

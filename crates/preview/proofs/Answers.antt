@@ -5,17 +5,14 @@
 use mathlib.Core.Path.{_≡_, refl, sym}
 use mathlib.Core.Bool.{Bool, true, false, not}
 use Prim.Native.Nat.{ℕ}
-use native.Mathlib.Omega.{arith}
 use Rattle.answers.specs.Outcome.{given, refused, refuseIf}
-
-never : {A : Type 0} {n : ℕ} {a : A} → given a ≡ refused n → ⊥
-never h = let z : _≡_ {A = ℕ} 0 1 = cc in omega arith
+use Rattle.answers.proofs.OutcomeLaws.{not-given}
 
 -- an answer of one row of checks, by its test
 pub given-by : {A : Type 0} (b : Bool) (n : ℕ) (a r : A) → given a ≡ refuseIf (not b) n (given r) → (b ≡ true) × (a ≡ r)
 given-by true n a r h = (refl, cc)
-given-by false n a r h = absurd (never h)
+given-by false n a r h = absurd (not-given (sym h))
 
 pub refused-by : {A : Type 0} (b : Bool) (n m : ℕ) (r : A) → refused m ≡ refuseIf (not b) n (given r) → (b ≡ false) × (m ≡ n)
-refused-by true n m r h = absurd (never (sym h))
+refused-by true n m r h = absurd (not-given h)
 refused-by false n m r h = (refl, cc)

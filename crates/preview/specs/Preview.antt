@@ -25,7 +25,7 @@ abbrev pub quotient : ℤ → ℕ → Float
 quotient z e = div binary64 (ofInt binary64 z) (ofInt binary64 (pos e))
 
 abbrev pub floats : Disk → ℕ → Preview
-floats d r = record { x = quotient (d .x) (d .e); y = quotient (d .y) (d .e); r = ofInt binary64 (pos r) }
+floats d r = record { x = quotient (d .x) (d .e); y = quotient (d .y) (d .e); radius = ofInt binary64 (pos r) }
 
 abbrev pub previewOf : Disk → List Point → Outcome Preview
 previewOf d ps = refuseIf (not (valid d ps)) 7 (given (floats d (wholeRadius d)))

@@ -13,7 +13,7 @@ use record::Radius;
 pub struct Preview {
     pub x: f64,
     pub y: f64,
-    pub r: f64,
+    pub radius: f64,
 }
 
 pub enum Shown {
@@ -34,7 +34,7 @@ fn floats_of(d: Disk, r: u64) -> Preview
     Preview {
         x: (x as f64) / scale,
         y: (y as f64) / scale,
-        r: r as f64,
+        radius: r as f64,
     }
 }
 

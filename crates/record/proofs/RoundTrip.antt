@@ -12,6 +12,7 @@ use borrow.Author.Tests.{eq-eqb, eqb-true, not-false}
 use lib.Dec.{eqb}
 use lib.ListN.{length, getD}
 use Rattle.answers.specs.Outcome.{Outcome, given, refused, refuseIf}
+use Rattle.answers.proofs.OutcomeLaws.{given-same, not-refused}
 use Rattle.integers.specs.Between.{first, rest}
 use Rattle.geometry.specs.declared.Point.{Point}
 use Rattle.geometry.specs.declared.Disk.{Disk}
@@ -89,16 +90,6 @@ read-written d ps h =
 
 -- ---- bytes that the reader accepts
 
-never : {A : Type 0} {n : ℕ} {a : A} → refused n ≡ given a → ⊥
-never h = let z : _≡_ {A = ℕ} 0 1 = cc in omega arith
-
-not-refused : {A : Type 0} (b : Bool) (n : ℕ) {later : Outcome A} {a : A} → refuseIf b n later ≡ given a → (b ≡ false) × (later ≡ given a)
-not-refused true n h = absurd (never h)
-not-refused false n h = (refl, h)
-
-what-given : {A : Type 0} {a b : A} → given a ≡ given b → a ≡ b
-what-given h = cc
-
 -- the bytes that the reader is given are those of a lent slice, each below 256
 module _ (bs : List ℕ) (bytes : (k : ℕ) → getD bs k 0 < 256) where
   rewritten : length bs ≡ recordLength → recordBytes (diskIn bs) (pointsIn bs) ≡ bs
@@ -110,7 +101,7 @@ module _ (bs : List ℕ) (bytes : (k : ℕ) → getD bs k 0 < 256) where
   written-again d ps h =
       let long = not-refused (not (eqb (length bs) recordLength)) 7 h in
       let ok = not-refused (not (valid (diskIn bs) (pointsIn bs))) 7 (long .1) in
-      let same = what-given (ok .1) in
+      let same = given-same (ok .1) in
       let disk : diskIn bs ≡ d = ap (λ (r : Disk × List Point). r .0) same in
       let points : pointsIn bs ≡ ps = ap (λ (r : Disk × List Point). r .1) same in (
         sym (ap₂ valid disk points) ∙ not-false (valid (diskIn bs) (pointsIn bs)) (ok .0),
@@ -121,5 +112,5 @@ module _ (bs : List ℕ) (bytes : (k : ℕ) → getD bs k 0 < 256) where
 
 pub record-injective : (d e : Disk) (ps qs : List Point) → valid d ps ≡ true → valid e qs ≡ true → recordBytes d ps ≡ recordBytes e qs → (d ≡ e) × (ps ≡ qs)
 record-injective d e ps qs h k same =
-    let read = what-given (sym (read-written d ps h) ∙ ap readOf same ∙ read-written e qs k) in
+    let read = given-same (sym (read-written d ps h) ∙ ap readOf same ∙ read-written e qs k) in
     (ap (λ (r : Disk × List Point). r .0) read, ap (λ (r : Disk × List Point). r .1) read)

@@ -20,6 +20,7 @@ use lib.ListN.{length, take, drop, length-drop}
 use lib.Seq.{length-take-le}
 use Rattle.integers.specs.Between.{first, rest}
 use Rattle.answers.specs.Outcome.{Outcome, given, refused, refuseIf}
+use Rattle.answers.proofs.OutcomeLaws.{not-refused}
 use Rattle.sheet.specs.Sheet.{Place, number, count, directoryEnd, pair, pairs, follow, glyphOf, pickList, partOf}
 
 -- ---- the rule of the pairs
@@ -59,19 +60,9 @@ follow-pair s l end i (suc n) (suc j) h k =
 
 -- ---- where a glyph is given
 
-isGiven : {A : Type 0} → Outcome A → Bool
-isGiven (given a) = true
-isGiven (refused n) = false
-
 valueOr : {A : Type 0} → A → Outcome A → A
 valueOr d (given a) = a
 valueOr d (refused n) = d
-
--- what a row of checks that ends in a value has passed
-passed : {A : Type 0} (b : Bool) (n : ℕ) (rest : Outcome A) (a : A) → refuseIf b n rest ≡ given a → (b ≡ false) × (rest ≡ given a)
-unfolding isGiven
-passed true n rest a h = absurd (true≢false (sym (ap isGiven h)))
-passed false n rest a h = (refl, h)
 
 pub record Given (s : List ℕ) (k : ℕ) (p : Place) : Type 0 where
   pub short : length s ≤ 65535
@@ -86,10 +77,10 @@ given-pair s k p h =
     let f = follow (directoryEnd s) (length s) (pairs s 0 (count s)) in
     let row-end = refuseIf (leb (count s) k) 10 (given (pair s k)) in
     let rule-row = refuseIf (not f) 6 row-end in
-    let a = passed (ltb 65535 (length s)) 1 (refuseIf (ltb (length s) (directoryEnd s)) 6 rule-row) p h in
-    let b = passed (ltb (length s) (directoryEnd s)) 6 rule-row p (a .1) in
-    let c = passed (not f) 6 row-end p (b .1) in
-    let d = passed (leb (count s) k) 10 (given (pair s k)) p (c .1) in
+    let a = not-refused (ltb 65535 (length s)) 1 {rest = refuseIf (ltb (length s) (directoryEnd s)) 6 rule-row} h in
+    let b = not-refused (ltb (length s) (directoryEnd s)) 6 {rest = rule-row} (a .1) in
+    let c = not-refused (not f) 6 {rest = row-end} (b .1) in
+    let d = not-refused (leb (count s) k) 10 (c .1) in
     record {
       short = ltb-false 65535 (length s) (a .0);
       whole = ltb-false (length s) (directoryEnd s) (b .0);

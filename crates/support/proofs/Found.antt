@@ -42,7 +42,7 @@ use Rattle.disks.proofs.Answer.{limits}
 use Rattle.disks.proofs.Choose.{Among}
 use Rattle.disks.proofs.First.{Passes, first-passes, Candidate, candidate, a-candidate, candidates-earlier, first-support, first-unique}
 use Rattle.support.specs.Search.{boundaryOf, fits, firstFit}
-use Rattle.support.proofs.PointRows.{all-in-em-box}
+use Rattle.geometry.proofs.EmBox.{box-members}
 use Rattle.support.proofs.Boundary.{boundary-in, in-boundary}
 use Rattle.support.proofs.SetTests.{on-value, value-on, one-strong, strong-one, two-strong, strong-two, three-strong, acute-three}
 
@@ -246,7 +246,7 @@ module _ (P : List Point) (some : 1 ≤ length P) (d : Disk) (is : d ≡ diskOf 
       of (p ∷ P) h = firstFit-some p P
 
   pub within-limits : allInEmBox P ≡ true → Limits d
-  within-limits boxed = subst Limits (sym is) (of P some (all-in-em-box P boxed))
+  within-limits boxed = subst Limits (sym is) (of P some (box-members P boxed))
     where
       of : (P : List Point) → 1 ≤ length P → ((p : Point) → In p P → T (inEmBox p)) → Limits (diskOf P)
       of [] h f = absurd (no-points h)

@@ -5,7 +5,6 @@
 --   points-none           : there are none from half the length on; points-length: the points are at most half as many
 --   points-some           : a list of two numbers or more has a point
 --   pointAt-in            : point i is one of the points
---   all-in-em-box         : each point of a list in the em box is
 --   firstPoints-from, firstPoints-end : so of the first n points, up to the last
 --   firstPoints-take      : the first k of the first n points
 --   drop-next             : lists with the same numbers from 2i on have the same from 2(i + 1) on
@@ -81,15 +80,6 @@ in-drop (suc i) (p ∷ P) m = List·Memᴰ·tail (in-drop i P m)
 
 pub pointAt-in : (i : ℕ) (l : List ℤ) → 2 * i + 2 ≤ length l → List·Memᴰ (pointAt l i) (points l)
 pointAt-in i l h = in-drop i (points l) (rw (points-from i l h) (List·Memᴰ·head refl))
-
-pub all-in-em-box : (P : List Point) → allInEmBox P ≡ true → (p : Point) → List·Memᴰ p P → T (inEmBox p)
-unfolding allInEmBox
-all-in-em-box [] e p m = absurd (List·Memᴰ·not-nil m)
-all-in-em-box (q ∷ P) e p m = go (λ k. all-in-em-box P (rest (inEmBox q) (allInEmBox P) e) p k) (List·Memᴰ·cases-cons m)
-  where
-    go : (List·Memᴰ p P → T (inEmBox p)) → (p ≡ q) ⊎ List·Memᴰ p P → T (inEmBox p)
-    go f (inl k) = subst T (sym (ap inEmBox k ∙ first (inEmBox q) (allInEmBox P) e)) tt
-    go f (inr k) = f k
 
 module _ (n i : ℕ) (l : List ℤ) (fits : 2 * n ≤ length l) where
   pub firstPoints-from : i < n → drop i (firstPoints n l) ≡ pointAt l i ∷ drop (i + 1) (firstPoints n l)

@@ -24,7 +24,7 @@ use Rattle.disks.proofs.Base.{positive-not-zero}
 use Rattle.disks.proofs.LowestTerms.{Written, written-value}
 use Rattle.disks.proofs.StrongSmallest.{some-positive, written-on}
 use Rattle.disks.proofs.Own.{one-test, two-test}
-use Rattle.disks.proofs.Acute.{corner, acute-strong}
+use Rattle.disks.proofs.Acute.{angle, acute-strong}
 use Rattle.disks.proofs.Rising.{both, eqZ-eq, eq-eqZ}
 use Rattle.support.specs.Search.{onBoundaryTest, midway, opposite, acuteAt, acute, fits}
 
@@ -44,7 +44,7 @@ value-none E v n d s q hE h = ≡-cancel (positive-not-zero hE) (linear (E ∷ v
 no-distance : (u x v y : ℤ) → u ≡ x → v ≡ y → (u -ℤ x) *ℤ (u -ℤ x) +ℤ (v -ℤ y) *ℤ (v -ℤ y) ≡ pos 0
 no-distance u x v y h k = linear (u ∷ x ∷ v ∷ y ∷ []) (eqn (u -ℤ x) h & eqn (v -ℤ y) k) (search poly depth 30) tt
 
-turned : (a b c : Point) → corner b a c ≡ corner b c a
+turned : (a b c : Point) → angle b a c ≡ angle b c a
 turned a b c = ring (a .x ∷ a .y ∷ b .x ∷ b .y ∷ c .x ∷ c .y ∷ []) (search poly depth 30) tt
 
 pos-eq : (m n : ℕ) → pos m ≡ pos n → m ≡ n
@@ -129,6 +129,6 @@ three-strong {F} d a b c proper ha hb hc t = acute-strong F proper a b c ha hb h
     rest : T (others a b c)
     rest = and-right (acuteAt a b c) (others a b c) t
 
-pub acute-three : (d : Disk) (a b c : Point) → pos 0 <ℤ corner a b c → pos 0 <ℤ corner b a c → pos 0 <ℤ corner c a b → T (fits d (a ∷ b ∷ c ∷ []))
+pub acute-three : (d : Disk) (a b c : Point) → pos 0 <ℤ angle a b c → pos 0 <ℤ angle b a c → pos 0 <ℤ angle c a b → T (fits d (a ∷ b ∷ c ∷ []))
 unfolding fits acute acuteAt
 acute-three d a b c ka kb kc = both (acuteAt a b c) (others a b c) (ka .lt) (both (acuteAt b c a) (acuteAt c a b) (subst (λ (z : ℤ). pos 0 <ℤ z) (turned a b c) kb .lt) (kc .lt))

@@ -8,7 +8,7 @@ ghost use lib.ListN.{length};
 ghost use Rattle.geometry.specs.Points.{points, flat};
 ghost use Rattle.geometry.proofs.PointLists.{toFront};
 ghost use Rattle.disks.specs.Procedure.{lowestTerms, diskOf, testsOf, orderOf};
-ghost use Rattle.disks.proofs.LiftedProcedure.{rimDisk};
+ghost use Rattle.disks.proofs.LiftedProcedure.{boundaryForm};
 ghost use Rattle.welzl.specs.Boundary.{members, roomIn, added};
 ghost use Rattle.welzl.specs.Relative.{Coordinates, Differences, Near, SmallNumbers, Small, AnswerNumbers, beyond, isOutside, Keeps, diameterAbout, circleAbout};
 ghost use Rattle.welzl.specs.Ran.{Boxed, Given, Ran, Accepted};
@@ -141,7 +141,7 @@ fn circle(ax: i64, ay: i64, bx: i64, by: i64, cx: i64, cy: i64) -> RelativeDisk
 // The smallest disk with R on its boundary.
 fn boundary_disk(fixed: Boundary) -> RelativeDisk
     requires { ⌜ Boxed (members fixed) ⌝ }
-    ensures { λ r. ⌜ Keeps r (rimDisk (members fixed)) ⌝ }
+    ensures { λ r. ⌜ Keeps r (boundaryForm (members fixed)) ⌝ }
 {
     match fixed {
         Boundary::None => RelativeDisk {

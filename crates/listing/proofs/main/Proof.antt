@@ -1,3 +1,11 @@
+-- `listing::main` meets its contract: what was read lies within the buffer.
+use Prim.Native.Nat.{_≤_}
+use mathlib.Core.Path.{sym, subst}
+use native.Mathlib.Omega.{arith}
+use lib.ListN.{length}
+use lib.Seq.{length-take-le}
+use Rattle.listing.specs.declared.Input.{Input}
+use Rattle.listing.specs.Reading.{Holds}
 use borrow.Author.Needs.{needs}
 use Rattle.listing.proofs.main.Statement.{statement}
 use Rattle.listing.proofs.main.Tie as tie
@@ -7,6 +15,13 @@ use Rattle.io.proofs.large_buffer.Reads as large-buffer-reads
 use Rattle.listing.proofs.read_all.Reads as read-all-reads
 use Rattle.os.proofs.fail.Reads as fail-reads
 use Rattle.report.proofs.print_description.Reads as print-description-reads
+
+-- what was read lies within the buffer
+read-within : (c : tie.After-known-told) → c .before .n .given .0 .0 ≤ length (c .before .before .before .before .read-all .last .0)
+read-within c =
+    let r = c .before .before .before .before .read-all in
+    let h = subst (λ (i : Input). Holds i (length (c .before .before .before .before .before .before .large-buffer .result))) (c .before .n .given .1) (r .ensures) in
+    omega (arith, h, r .kept .0)
 
 large-buffer-requires : tie.Need-large-buffer-requires
 large-buffer-requires c κs = search needs
@@ -21,10 +36,10 @@ enum-known-n : tie.Need-enum-known-n
 enum-known-n c = search needs
 
 array-share-prefix-text : tie.Need-array-share-prefix-text
-array-share-prefix-text c = ?
+array-share-prefix-text c = read-within c
 
 slice-aggregate-print-description : tie.Need-slice-aggregate-print-description
-slice-aggregate-print-description c = ?
+slice-aggregate-print-description c = sym (length-take-le (c .before .before .n .given .0 .0) (c .before .before .before .before .before .read-all .last .0) (read-within (c .before)))
 
 slice-aggregate-print-description-2 : tie.Need-slice-aggregate-print-description-2
 slice-aggregate-print-description-2 c = search needs

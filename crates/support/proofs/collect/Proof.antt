@@ -12,7 +12,8 @@ use Rattle.geometry.specs.Plane.{inEmBox}
 use Rattle.disks.specs.Support.{insert, sorted}
 use Rattle.disks.proofs.Rising.{sorted-length}
 use Rattle.support.specs.Search.{onBoundaryTest, boundaryOf}
-use Rattle.support.proofs.PointRows.{points-from, points-none, points-length, pointAt-in, all-in-em-box}
+use Rattle.support.proofs.PointRows.{points-from, points-none, points-length, pointAt-in}
+use Rattle.geometry.proofs.EmBox.{box-members}
 use Rattle.support.proofs.Boundary.{boundary-on, boundary-off, boundary-length}
 use Rattle.support.proofs.collect.Statement.{statement}
 use Rattle.support.proofs.collect.Tie as tie
@@ -65,7 +66,7 @@ on-boundary-requires : tie.Need-on-boundary-requires Inv-loop μ-loop
 on-boundary-requires c κs =
     let l = s c .args .list .now in
     let i = at c .loop .i - 1 in
-    (s c .pre .0, subst (λ (p : Point). T (inEmBox p)) (sym (c .point-at .ensures)) (all-in-em-box (points l) (s c .pre .1) (pointAt l i) (pointAt-in i l (omega arith))))
+    (s c .pre .0, subst (λ (p : Point). T (inEmBox p)) (sym (c .point-at .ensures)) (box-members (points l) (s c .pre .1) (pointAt l i) (pointAt-in i l (omega arith))))
 
 insert-point-requires : tie.Need-insert-point-requires Inv-loop μ-loop
 insert-point-requires c κs =

@@ -1,0 +1,40 @@
+-- `vectors::run_engine` is safe and ends: the part lent has as many numbers as the case.
+use mathlib.Core.Path.{sym}
+use native.Mathlib.Omega.{arith}
+use lib.Seq.{length-take-le}
+use borrow.Author.Needs.{needs}
+use Rattle.vectors.proofs.run_engine.Statement.{statement}
+use Rattle.vectors.proofs.run_engine.Tie as tie
+
+slice-aggregate-fill-list : tie.Need-slice-aggregate-fill-list
+slice-aggregate-fill-list c = search needs
+
+fill-list-requires : tie.Need-fill-list-requires
+fill-list-requires c κs = search needs
+
+array-borrow-prefix-list : tie.Need-array-borrow-prefix-list
+array-borrow-prefix-list c = search needs
+
+slice-aggregate-solve : tie.Need-slice-aggregate-solve
+slice-aggregate-solve c = sym (length-take-le _ _ (omega arith))
+
+solve-requires : tie.Need-solve-requires
+solve-requires c κs = search needs
+
+returns : tie.Need-returns
+returns c = search needs
+
+returns-2 : tie.Need-returns-2
+returns-2 c = search needs
+
+pub run-engine-spec : {M : Type 1} → statement M
+run-engine-spec =
+    tie.close
+    (tie.spec
+    slice-aggregate-fill-list
+    fill-list-requires
+    array-borrow-prefix-list
+    slice-aggregate-solve
+    solve-requires
+    returns
+    returns-2)

@@ -1,0 +1,204 @@
+// Runs the stored cases (tests/README.md): each names a call and gives it its bytes; what the calls answer and leave is printed.
+use geometry::Disk;
+use geometry::Point;
+use geometry::SupportSet;
+ghost use Prim.Native.Nat.{_≤_};
+
+fn print_radius(d: Disk, t: SupportSet) {
+    match record::whole_radius(d, t) {
+        record::Radius::Whole(r) => cases::print_count(b"whole", r),
+        record::Radius::Refused(r) => cases::print_refusal(r),
+    }
+}
+
+// The bits of a float; those of a NaN are not asked for.
+fn print_float(v: f64) {
+    if v == v {
+        cases::print_bits(f64::to_bits(v));
+    }
+}
+
+fn print_preview(d: Disk, t: SupportSet) {
+    match preview::preview_of(d, t) {
+        preview::Shown::At(p) => {
+            cases::print_text(b"preview");
+            print_float(p.x);
+            print_float(p.y);
+            print_float(p.radius);
+            cases::print_text(b"\n");
+        }
+        preview::Shown::Refused(r) => cases::print_refusal(r),
+    }
+}
+
+// The engine on a list of points alone.
+fn solve(list: &mut [i16]) {
+    match engine::smallest_disk(list) {
+        engine::Enclosed::Found(d, t, tests) => {
+            cases::print_disk(d);
+            cases::print_support(t);
+            print_radius(d, t);
+            cases::print_count(b"tests", tests);
+        }
+        engine::Enclosed::Refused(r) => cases::print_refusal(r),
+    }
+    cases::print_count(b"left", cases::list_checksum(list));
+}
+
+// D: a description, through loader, engine and cutting radius.
+fn run_listing(text: &[u8]) {
+    let mut list = [0i16; 8192];
+    match description::load(text, &mut list) {
+        description::Loaded::Points(n) => {
+            if n <= 4096 {
+                solve(&mut list[..2 * n]);
+            }
+        }
+        description::Loaded::Refused(r) => cases::print_refusal(r),
+    }
+}
+
+// E: a list of points, through the engine.
+fn run_engine(bytes: &[u8]) {
+    let mut list = [0i16; 8200];
+    let n = bytes.len() / 2;
+    if n <= 8200 {
+        cases::fill_list(bytes, &mut list);
+        solve(&mut list[..n]);
+    }
+}
+
+// L: a description, through the loader.
+fn run_loader(text: &[u8]) {
+    let mut list = [12321i16; 8192];
+    match description::load(text, &mut list) {
+        description::Loaded::Points(n) => cases::print_count(b"points", n as u64),
+        description::Loaded::Refused(r) => cases::print_refusal(r),
+    }
+    cases::print_count(b"list", cases::list_checksum(&list));
+}
+
+fn print_part(sheet: &[u8], start: usize, len: usize) {
+    cases::print_text(b"part");
+    cases::print_natural(start as u64);
+    cases::print_natural(len as u64);
+    cases::print_natural(cases::byte_checksum(sheet::part(sheet, start, len)));
+    cases::print_text(b"\n");
+}
+
+fn open(sheet: &[u8], k: usize) {
+    match sheet::glyph(sheet, k) {
+        sheet::Opened::Part(start, len) => print_part(sheet, start, len),
+        sheet::Opened::Refused(r) => cases::print_refusal(r),
+    }
+}
+
+fn wide(b: u8) -> usize
+    ensures { λ r. ⌜ r ≤ 255 ⌝ }
+{
+    b as usize
+}
+
+// S: a glyph number in two bytes, then the sheet.
+fn run_sheet(bytes: &[u8]) {
+    if 2 <= bytes.len() {
+        let k = 256 * wide(bytes[0]) + wide(bytes[1]);
+        open(&bytes[2..], k);
+    }
+}
+
+// R: a record, through the reader.
+fn run_reader(bytes: &[u8]) {
+    match record::read_record(bytes) {
+        record::Record::Read(d, t) => {
+            cases::print_disk(d);
+            cases::print_support(t);
+            print_radius(d, t);
+            print_preview(d, t);
+        }
+        record::Record::Refused(r) => cases::print_refusal(r),
+    }
+}
+
+fn get_point(bytes: &[u8], at: usize) -> Point
+    requires { ⌜ at ≤ 100 ⌝ }
+{
+    let x = cases::number_at(bytes, at);
+    let y = cases::number_at(bytes, at + 2);
+    Point { x, y }
+}
+
+// The points stand from byte 34 on.
+fn get_support(bytes: &[u8], count: u8) -> SupportSet {
+    let a = get_point(bytes, 34);
+    let b = get_point(bytes, 38);
+    let c = get_point(bytes, 42);
+    if count == 1 {
+        return SupportSet::One(a);
+    }
+    if count == 2 {
+        return SupportSet::Two(a, b);
+    }
+    SupportSet::Three(a, b, c)
+}
+
+fn get_disk(bytes: &[u8]) -> Disk {
+    let x = cases::signed_word_at(bytes, 2);
+    let y = cases::signed_word_at(bytes, 10);
+    let e = cases::word_at(bytes, 18);
+    let s = cases::word_at(bytes, 26);
+    Disk { x, y, e, s }
+}
+
+fn write(d: Disk, t: SupportSet, buffer: &mut [u8]) {
+    match record::write_record(d, t, buffer) {
+        record::Written::Done => cases::print_text(b"written\n"),
+        record::Written::Refused(r) => cases::print_refusal(r),
+    }
+    cases::print_count(b"buffer", cases::byte_checksum(buffer));
+}
+
+// W: the length of a buffer, the number of points, a disk and three points, through cutting radius, preview and writer.
+fn run_writer(bytes: &[u8]) {
+    if 2 <= bytes.len() {
+        let d = get_disk(bytes);
+        let t = get_support(bytes, bytes[1]);
+        print_radius(d, t);
+        print_preview(d, t);
+        let mut buffer = [238u8; 256];
+        let room = wide(bytes[0]);
+        write(d, t, &mut buffer[..room]);
+    }
+}
+
+fn run_case(call: u8, bytes: &[u8]) {
+    match call {
+        b'D' => run_listing(bytes),
+        b'E' => run_engine(bytes),
+        b'L' => run_loader(bytes),
+        b'S' => run_sheet(bytes),
+        b'R' => run_reader(bytes),
+        b'W' => run_writer(bytes),
+        _ => {}
+    }
+}
+
+// Runs the next case, and answers whether there was one.
+fn run_next() -> bool {
+    let mut buffer = [0u8; 65538];
+    let case = cases::read_case(&mut buffer);
+    let n = case.length;
+    if 65538 < n {
+        return false;
+    }
+    run_case(case.call, &buffer[..n]);
+    true
+}
+
+// A proved loop has to end, and nothing says that the input does: so the turns are counted down.
+fn main() {
+    let mut turns = u64::MAX;
+    while turns > 0 && run_next() {
+        turns -= 1;
+    }
+}
