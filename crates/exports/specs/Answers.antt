@@ -45,7 +45,7 @@ abbrev pub nought : Float
 nought = ofBits binary64 0
 
 abbrev pub previewAnswer : Outcome Preview → PreviewAnswer
-previewAnswer (given p) = record { refusal = 0; x = p .x; y = p .y; radius = p .r }
+previewAnswer (given p) = record { refusal = 0; x = p .x; y = p .y; radius = p .radius }
 previewAnswer (refused n) = record { refusal = n; x = nought; y = nought; radius = nought }
 
 abbrev pub recordAnswer : Outcome (Disk × List Point) → RecordAnswer

@@ -31,7 +31,7 @@ fn preview_answer(d: Disk, t: SupportSet) -> PreviewAnswer
             refusal: 0,
             x: p.x,
             y: p.y,
-            radius: p.r,
+            radius: p.radius,
         },
         preview::Shown::Refused(r) => no_preview(r),
     }
