@@ -3,10 +3,7 @@
 // The procedure is document 01's: the list as given, no permutation; disk, count of tests and order left are the engine's. The first
 // support set is left out. Points are two 16-bit numbers, x and y by turns, and the move to the front is one memmove.
 //
-// A disk is kept relative to a point q on its boundary: centre q + g/E. For d = p - q, p is outside exactly if |d|^2 E > 2 d.g, that
-// is (x - qx)(E x - a) + (y - qy)(E y - b) > 0 with a = E qx + 2 gx and b = E qy + 2 gy.
-//
-//   g++ -O3 -o baseline baseline.cpp && ./baseline RUNS < LISTS
+//   g++ -O3 -std=c++17 -o baseline baseline.cpp && ./baseline RUNS < LISTS
 //
 // LISTS is a row of lists as `cargo run --bin bench_lists` (tests/reference) writes them: the number of points in five decimal digits, a
 // line feed, then x and y of each point as signed 16-bit numbers, low byte first. For each list it prints the number of points, the
@@ -19,85 +16,11 @@
 #include <cstring>
 #include <vector>
 
+#include "by_hand.hpp"
+
 namespace {
 
-struct Point {
-    int16_t x, y;
-};
-
-struct Disk {
-    int64_t qx, qy, e, a, b;
-};
-
-Disk disk_of_one(Point q) {
-    return {q.x, q.y, 1, q.x, q.y};
-}
-
-Disk about(Point q, int64_t e, int64_t gx, int64_t gy) {
-    return {q.x, q.y, e, e * q.x + 2 * gx, e * q.y + 2 * gy};
-}
-
-Disk disk_of_two(Point q, Point r) {
-    return about(q, 2, r.x - q.x, r.y - q.y);
-}
-
-Disk disk_of_three(Point q, Point r, Point s) {
-    int64_t ux = r.x - q.x, uy = r.y - q.y, vx = s.x - q.x, vy = s.y - q.y;
-    int64_t w = ux * vy - uy * vx;
-    int64_t uu = ux * ux + uy * uy, vv = vx * vx + vy * vy;
-    int64_t sign = w < 0 ? -1 : 1;
-    return about(q, sign * 2 * w, sign * (uu * vy - vv * uy), sign * (vv * ux - uu * vx));
-}
-
-inline bool is_outside(const Disk& d, Point p) {
-    int64_t x = p.x, y = p.y;
-    return (x - d.qx) * (d.e * x - d.a) + (y - d.qy) * (d.e * y - d.b) > 0;
-}
-
-inline void move_to_front(Point* list, size_t i) {
-    Point p = list[i];
-    std::memmove(list + 1, list, i * sizeof(Point));
-    list[0] = p;
-}
-
-Disk with_two(Point* list, size_t n, Point q, Point r, uint64_t& tests) {
-    Disk disk = disk_of_two(q, r);
-    for (size_t i = 0; i < n; i++) {
-        Point p = list[i];
-        if (is_outside(disk, p)) {
-            disk = disk_of_three(q, r, p);
-            move_to_front(list, i);
-        }
-    }
-    tests += n;
-    return disk;
-}
-
-Disk with_one(Point* list, size_t n, Point q, uint64_t& tests) {
-    Disk disk = disk_of_one(q);
-    for (size_t i = 0; i < n; i++) {
-        Point p = list[i];
-        if (is_outside(disk, p)) {
-            disk = with_two(list, i, q, p, tests);
-            move_to_front(list, i);
-        }
-    }
-    tests += n;
-    return disk;
-}
-
-Disk smallest_disk(Point* list, size_t n, uint64_t& tests) {
-    Disk disk = disk_of_one(list[0]);
-    for (size_t i = 1; i < n; i++) {
-        Point p = list[i];
-        if (is_outside(disk, p)) {
-            disk = with_one(list, i, p, tests);
-            move_to_front(list, i);
-        }
-    }
-    tests += n;
-    return disk;
-}
+using bench::Point;
 
 std::vector<std::vector<Point>> read_lists() {
     std::vector<std::vector<Point>> lists;
@@ -135,7 +58,7 @@ double run_all(const std::vector<std::vector<Point>>& lists, std::vector<std::ve
     tests.assign(lists.size(), 0);
     auto start = std::chrono::steady_clock::now();
     for (size_t i = 0; i < lists.size(); i++) {
-        Disk disk = smallest_disk(left[i].data(), left[i].size(), tests[i]);
+        by_hand::Relative disk = by_hand::procedure(left[i].data(), left[i].size(), tests[i]);
         asm volatile("" : : "r"(&disk) : "memory");
     }
     return std::chrono::duration<double>(std::chrono::steady_clock::now() - start).count();

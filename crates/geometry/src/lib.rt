@@ -7,12 +7,14 @@ ghost use Rattle.geometry.specs.Points.{pointAt};
 ghost use Rattle.geometry.specs.Order.{before};
 
 // 01: a corner.
+#[repr(C)]
 pub struct Point {
     pub x: i16,
     pub y: i16,
 }
 
 // Centre (x/e, y/e), squared radius s/e² (01: X, Y, E, S).
+#[repr(C)]
 pub struct Disk {
     pub x: i64,
     pub y: i64,

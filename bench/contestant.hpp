@@ -1,0 +1,61 @@
+// What every contestant offers, and the row of those that were built.
+#pragma once
+#include <cstdint>
+#include <memory>
+#include <string>
+#include <vector>
+
+namespace bench {
+
+struct Point {
+    int16_t x, y;
+};
+
+using List = std::vector<Point>;
+
+// Centre (x/e, y/e) and squared radius s/e^2 with no common divisor of x, y and e.
+struct Disk {
+    int64_t x, y, e, s;
+    bool operator==(const Disk& o) const { return x == o.x && y == o.y && e == o.e && s == o.s; }
+};
+
+// A disk in floating numbers: the radius, or its square where that is what the library hands out.
+struct Drawn {
+    double x, y, radius;
+    bool is_square;
+};
+
+// An exact contestant fills `disk`, any other `drawn`.
+struct Found {
+    Disk disk;
+    Drawn drawn;
+};
+
+class Contestant {
+  public:
+    virtual ~Contestant() = default;
+    // Takes copies of the lists, in the contestant's own form. Not timed.
+    virtual void prepare(const std::vector<List>& lists) = 0;
+    // The disks of all of them. Timed.
+    virtual void run() = 0;
+    // The disk of list i. Not timed.
+    virtual Found found(size_t i) const = 0;
+};
+
+struct Entry {
+    int rank;
+    std::string name;
+    bool is_exact;
+    std::unique_ptr<Contestant> contestant;
+};
+
+std::vector<Entry>& entries();
+
+// A file of contestants/ puts what it has into the row by a static object of this kind.
+struct Enter {
+    Enter(int rank, const char* name, bool is_exact, std::unique_ptr<Contestant> c) {
+        entries().push_back({rank, name, is_exact, std::move(c)});
+    }
+};
+
+}  // namespace bench

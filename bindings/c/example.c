@@ -1,0 +1,62 @@
+/*
+ * The way of a letter through the library: a description is read, its smallest disk worked out, and a record written and read back.
+ *
+ *   bindings/c/run      builds and runs it; it reads a description from standard input, or letter F of the papers without one
+ */
+#include <inttypes.h>
+#include <stdio.h>
+
+#include "../../include/volkhidar.h"
+
+static const char letter_f[] = "0 0\n4 0\n2 3\n";
+
+static int refused(uint64_t refusal) {
+    printf("refused %" PRIu64 "\n", refusal);
+    return 1;
+}
+
+static void print_answer(const volkhidar_disk_answer *answer) {
+    const volkhidar_disk *d = &answer->disk;
+    printf("disk %" PRId64 " %" PRId64 " %" PRIu64 " %" PRIu64 "\nrim", d->x, d->y, d->e, d->s);
+    for (uint64_t i = 0; i < answer->support.size; i++) {
+        printf(" %d %d", answer->support.points[i].x, answer->support.points[i].y);
+    }
+    printf("\n");
+}
+
+static int work_out(const uint8_t *text, size_t length) {
+    int16_t list[VOLKHIDAR_LIST_LENGTH];
+    volkhidar_load_answer loaded = volkhidar_load(text, length, list, VOLKHIDAR_LIST_LENGTH);
+    if (loaded.refusal) return refused(loaded.refusal);
+
+    volkhidar_disk_answer answer = volkhidar_smallest_disk(list, 2 * loaded.count);
+    if (answer.refusal) return refused(answer.refusal);
+    print_answer(&answer);
+
+    volkhidar_radius_answer radius = volkhidar_whole_radius(answer.disk, answer.support);
+    if (radius.refusal) return refused(radius.refusal);
+    printf("whole %" PRIu64 "\ntests %" PRIu64 "\n", radius.radius, answer.tests);
+
+    volkhidar_preview_answer preview = volkhidar_preview(answer.disk, answer.support);
+    if (preview.refusal) return refused(preview.refusal);
+    printf("preview %.17g %.17g %.17g\n", preview.x, preview.y, preview.radius);
+
+    uint8_t record[VOLKHIDAR_RECORD_LENGTH];
+    uint64_t refusal = volkhidar_write_record(answer.disk, answer.support, record, sizeof record);
+    if (refusal) return refused(refusal);
+    printf("record ");
+    for (size_t i = 0; i < sizeof record; i++) printf("%02x", record[i]);
+
+    volkhidar_record_answer read = volkhidar_read_record(record, sizeof record);
+    printf("\nread back %s\n", read.refusal == 0 && read.disk.s == answer.disk.s ? "yes" : "no");
+    return 0;
+}
+
+int main(int argc, char **argv) {
+    static uint8_t text[VOLKHIDAR_MOST_BYTES + 1];
+    (void)argv;
+    if (argc > 1) {
+        return work_out(text, fread(text, 1, sizeof text, stdin));
+    }
+    return work_out((const uint8_t *)letter_f, sizeof letter_f - 1);
+}

@@ -1,0 +1,196 @@
+//! The smallest disk that holds a letter's points, exact and proved.
+//!
+//! Safe wrappers of the C interface (`include/volkhidar.h`). The library behind it is built by `rt staticlib exports`, which the build
+//! calls where it was not built yet.
+//!
+//! A letter's way through the library:
+//!
+//! ```
+//! use volkhidar::{load, preview, read_record, smallest_disk, whole_radius, write_record, Disk, LIST_LENGTH, RECORD_LENGTH};
+//!
+//! let mut list = [0; LIST_LENGTH];
+//! let count = load(b"0 0\n4 0\n2 3\n", &mut list)?;
+//! let found = smallest_disk(&mut list[..2 * count])?;
+//! assert_eq!(found.disk, Disk { x: 12, y: 5, e: 6, s: 169 });
+//! assert_eq!(found.tests, 7);
+//! assert_eq!(whole_radius(found.disk, found.support)?, 3);
+//! assert_eq!(preview(found.disk, found.support)?.y, 5.0 / 6.0);
+//!
+//! let mut record = [0; RECORD_LENGTH];
+//! write_record(found.disk, found.support, &mut record)?;
+//! assert_eq!(read_record(&record)?, (found.disk, found.support));
+//! # Ok::<(), volkhidar::Refusal>(())
+//! ```
+//!
+//! A call that refuses its input changes nothing that it was lent.
+
+mod raw;
+mod refusal;
+mod shapes;
+
+pub use refusal::Refusal;
+pub use shapes::{Disk, Enclosed, Point, Preview, SupportSet};
+
+use refusal::checked;
+use std::ops::Range;
+
+/// A description or a sheet has at most this many bytes.
+pub const MOST_BYTES: usize = 65_535;
+
+/// A point list has at most this many points.
+pub const MOST_POINTS: usize = 4_096;
+
+/// The least length of the list that [`load`] is lent.
+pub const LIST_LENGTH: usize = 8_192;
+
+/// The bytes of a record.
+pub const RECORD_LENGTH: usize = 44;
+
+/// Reads a description: a point a line, "x y" in decimal. The points go to the front of the list in the order of the lines, x and y by
+/// turns, and the rest of the list stays; the answer is how many there are.
+///
+/// Refuses, in this order: [`Refusal::NoRoom`] for a list under [`LIST_LENGTH`] numbers, [`Refusal::TooLong`]; the first faulty line,
+/// by [`Refusal::BadLine`], [`Refusal::OutsideBox`], [`Refusal::TooMany`]; [`Refusal::NoPoint`].
+///
+/// ```
+/// use volkhidar::{load, Refusal, LIST_LENGTH};
+///
+/// let mut list = [-1; LIST_LENGTH];
+/// assert_eq!(load(b" 7 -250 \n\n8 0", &mut list), Ok(2));
+/// assert_eq!(list[..5], [7, -250, 8, 0, -1]);
+/// assert_eq!(load(b"7 751", &mut list), Err(Refusal::OutsideBox));
+/// assert_eq!(load(b"7\t0", &mut list), Err(Refusal::BadLine));
+/// ```
+pub fn load(text: &[u8], list: &mut [i16]) -> Result<usize, Refusal> {
+    let answer = unsafe { raw::volkhidar_load(text.as_ptr(), text.len(), list.as_mut_ptr(), list.len()) };
+    checked(answer.refusal)?;
+    Ok(answer.count as usize)
+}
+
+/// Finds part k of a sheet, from 0.
+///
+/// Refuses, in this order: [`Refusal::TooLong`], [`Refusal::BadSheet`], [`Refusal::NoGlyph`].
+///
+/// ```
+/// use volkhidar::{glyph, Refusal};
+///
+/// let sheet = b"\x00\x01\x00\x06\x00\x030 0";
+/// assert_eq!(glyph(sheet, 0), Ok(6..9));
+/// assert_eq!(&sheet[glyph(sheet, 0)?], b"0 0");
+/// assert_eq!(glyph(sheet, 1), Err(Refusal::NoGlyph));
+/// # Ok::<(), Refusal>(())
+/// ```
+pub fn glyph(sheet: &[u8], k: usize) -> Result<Range<usize>, Refusal> {
+    let answer = unsafe { raw::volkhidar_glyph(sheet.as_ptr(), sheet.len(), k) };
+    checked(answer.refusal)?;
+    let start = answer.start as usize;
+    Ok(start..start + answer.length as usize)
+}
+
+/// The smallest disk that holds the points of the list, x and y by turns; its first support set; and the count of containment tests of
+/// Welzl's move-to-front procedure on the list as given, in whose order the list is left.
+///
+/// Refuses, in this order: [`Refusal::OddLength`], [`Refusal::NoPoint`], [`Refusal::TooMany`], [`Refusal::OutsideBox`].
+///
+/// ```
+/// use volkhidar::{smallest_disk, Disk, Point, Refusal, SupportSet};
+///
+/// let mut list = [0, 0, 2, 0, 4, 0];
+/// let found = smallest_disk(&mut list)?;
+/// assert_eq!(found.disk, Disk { x: 2, y: 0, e: 1, s: 4 });
+/// assert_eq!(found.support, SupportSet::Two(Point { x: 0, y: 0 }, Point { x: 4, y: 0 }));
+/// assert_eq!(found.tests, 7);
+/// assert_eq!(list, [4, 0, 0, 0, 2, 0]);
+/// assert_eq!(smallest_disk(&mut [1, 2, 3]), Err(Refusal::OddLength));
+/// # Ok::<(), Refusal>(())
+/// ```
+pub fn smallest_disk(list: &mut [i16]) -> Result<Enclosed, Refusal> {
+    let answer = unsafe { raw::volkhidar_smallest_disk(list.as_mut_ptr(), list.len()) };
+    checked(answer.refusal)?;
+    Ok(Enclosed { disk: answer.disk, support: answer.support.into(), tests: answer.tests })
+}
+
+/// The least whole number R with R²e² at least s.
+///
+/// Refuses a disk and support set that a valid record could not hold: [`Refusal::BadRecord`].
+///
+/// ```
+/// use volkhidar::{whole_radius, Disk, Point, Refusal, SupportSet};
+///
+/// let support = SupportSet::Two(Point { x: 0, y: 0 }, Point { x: 3, y: 0 });
+/// assert_eq!(whole_radius(Disk { x: 3, y: 0, e: 2, s: 9 }, support), Ok(2));
+/// assert_eq!(whole_radius(Disk { x: 6, y: 0, e: 4, s: 36 }, support), Err(Refusal::BadRecord));
+/// ```
+pub fn whole_radius(disk: Disk, support: SupportSet) -> Result<u64, Refusal> {
+    let answer = unsafe { raw::volkhidar_whole_radius(disk, support.into()) };
+    checked(answer.refusal)?;
+    Ok(answer.radius)
+}
+
+/// The centre as x/e and y/e, each divided once and rounded once, and the whole radius.
+///
+/// Refuses a disk and support set that a valid record could not hold: [`Refusal::BadRecord`].
+///
+/// ```
+/// use volkhidar::{preview, Disk, Point, Preview, SupportSet};
+///
+/// let support = SupportSet::Two(Point { x: 0, y: 0 }, Point { x: 3, y: 0 });
+/// assert_eq!(preview(Disk { x: 3, y: 0, e: 2, s: 9 }, support), Ok(Preview { x: 1.5, y: 0.0, radius: 2.0 }));
+/// ```
+pub fn preview(disk: Disk, support: SupportSet) -> Result<Preview, Refusal> {
+    let answer = unsafe { raw::volkhidar_preview(disk, support.into()) };
+    checked(answer.refusal)?;
+    Ok(Preview { x: answer.x, y: answer.y, radius: answer.radius })
+}
+
+/// Writes the record of a disk and its support set into the first [`RECORD_LENGTH`] bytes of the buffer; the rest stays. Whether the
+/// points belong to the disk is not checked.
+///
+/// Refuses, in this order: [`Refusal::NoRoom`] for a shorter buffer; [`Refusal::BadRecord`].
+///
+/// ```
+/// use volkhidar::{write_record, Disk, Point, Refusal, SupportSet};
+///
+/// let (disk, support) = (Disk { x: 7, y: 7, e: 1, s: 0 }, SupportSet::One(Point { x: 7, y: 7 }));
+/// let mut buffer = [0xEE; 45];
+/// assert_eq!(write_record(disk, support, &mut buffer), Ok(()));
+/// assert_eq!(buffer[..8], [0, 0, 0, 0, 0, 0, 0, 7]);
+/// assert_eq!(buffer[44], 0xEE);
+/// assert_eq!(write_record(disk, support, &mut buffer[..43]), Err(Refusal::NoRoom));
+/// ```
+pub fn write_record(disk: Disk, support: SupportSet, buffer: &mut [u8]) -> Result<(), Refusal> {
+    checked(unsafe { raw::volkhidar_write_record(disk, support.into(), buffer.as_mut_ptr(), buffer.len()) })
+}
+
+/// Reads a record: what [`write_record`] wrote is read back, and what is read, written again, gives its own bytes. Whether the points
+/// belong to the disk is not checked.
+///
+/// Refuses any other bytes: [`Refusal::BadRecord`].
+///
+/// ```
+/// use volkhidar::{read_record, Refusal};
+///
+/// assert_eq!(read_record(&[0; 44]), Err(Refusal::BadRecord));
+/// ```
+pub fn read_record(bytes: &[u8]) -> Result<(Disk, SupportSet), Refusal> {
+    let answer = unsafe { raw::volkhidar_read_record(bytes.as_ptr(), bytes.len()) };
+    checked(answer.refusal)?;
+    Ok((answer.disk, answer.support.into()))
+}
+
+/// From a description to its record in one call: [`load`], [`smallest_disk`], [`write_record`]. The rest of the buffer stays.
+///
+/// Refuses, in this order: [`Refusal::NoRoom`] for a buffer under [`RECORD_LENGTH`] bytes; then what [`load`] refuses.
+///
+/// ```
+/// use volkhidar::{read_record, record_of, Disk, Refusal, RECORD_LENGTH};
+///
+/// let mut record = [0; RECORD_LENGTH];
+/// record_of(b"0 0\n4 0\n2 3\n", &mut record)?;
+/// assert_eq!(read_record(&record)?.0, Disk { x: 12, y: 5, e: 6, s: 169 });
+/// assert_eq!(record_of(b"\n", &mut record), Err(Refusal::NoPoint));
+/// # Ok::<(), Refusal>(())
+/// ```
+pub fn record_of(text: &[u8], buffer: &mut [u8]) -> Result<(), Refusal> {
+    checked(unsafe { raw::volkhidar_record_of(text.as_ptr(), text.len(), buffer.as_mut_ptr(), buffer.len()) })
+}

@@ -1,0 +1,99 @@
+//! The C interface as `include/volkhidar.h` has it. A Rust slice's pointer is never null, and two slices never overlap where one is
+//! `&mut`: that is all that the functions ask of their callers.
+
+use crate::shapes::{Disk, Point};
+
+#[repr(C)]
+pub struct Support {
+    pub size: u64,
+    pub points: [Point; 3],
+}
+
+#[repr(C)]
+pub struct LoadAnswer {
+    pub refusal: u64,
+    pub count: u64,
+}
+
+#[repr(C)]
+pub struct GlyphAnswer {
+    pub refusal: u64,
+    pub start: u64,
+    pub length: u64,
+}
+
+#[repr(C)]
+pub struct DiskAnswer {
+    pub refusal: u64,
+    pub disk: Disk,
+    pub support: Support,
+    pub tests: u64,
+}
+
+#[repr(C)]
+pub struct RadiusAnswer {
+    pub refusal: u64,
+    pub radius: u64,
+}
+
+#[repr(C)]
+pub struct PreviewAnswer {
+    pub refusal: u64,
+    pub x: f64,
+    pub y: f64,
+    pub radius: f64,
+}
+
+#[repr(C)]
+pub struct RecordAnswer {
+    pub refusal: u64,
+    pub disk: Disk,
+    pub support: Support,
+}
+
+extern "C" {
+    pub fn volkhidar_load(text: *const u8, text_length: usize, list: *mut i16, list_length: usize) -> LoadAnswer;
+    pub fn volkhidar_glyph(sheet: *const u8, sheet_length: usize, k: usize) -> GlyphAnswer;
+    pub fn volkhidar_smallest_disk(list: *mut i16, list_length: usize) -> DiskAnswer;
+    pub fn volkhidar_whole_radius(disk: Disk, support: Support) -> RadiusAnswer;
+    pub fn volkhidar_preview(disk: Disk, support: Support) -> PreviewAnswer;
+    pub fn volkhidar_write_record(disk: Disk, support: Support, buffer: *mut u8, buffer_length: usize) -> u64;
+    pub fn volkhidar_read_record(bytes: *const u8, length: usize) -> RecordAnswer;
+    pub fn volkhidar_record_of(text: *const u8, text_length: usize, buffer: *mut u8, buffer_length: usize) -> u64;
+}
+
+#[cfg(test)]
+mod tests {
+    use super::*;
+
+    const ORIGIN: Point = Point { x: 0, y: 0 };
+
+    fn no_set(size: u64) -> Support {
+        Support { size, points: [ORIGIN; 3] }
+    }
+
+    #[test]
+    fn sizes_that_no_support_set_has() {
+        let disk = Disk { x: 0, y: 0, e: 1, s: 0 };
+        for size in [0, 4, 5, 256, u64::MAX] {
+            let mut buffer = [0xEE; 44];
+            let mut write = |length| unsafe { volkhidar_write_record(disk, no_set(size), buffer.as_mut_ptr(), length) };
+            assert_eq!((write(44), write(43)), (7, 8));
+            assert_eq!(buffer, [0xEE; 44]);
+            assert_eq!(unsafe { volkhidar_whole_radius(disk, no_set(size)) }.refusal, 7);
+            assert_eq!(unsafe { volkhidar_preview(disk, no_set(size)) }.refusal, 7);
+        }
+        assert_eq!(unsafe { volkhidar_whole_radius(disk, no_set(1)) }.refusal, 0);
+    }
+
+    #[test]
+    fn a_refused_answer_holds_nothing_else() {
+        let bytes = [0; 3];
+        let answer = unsafe { volkhidar_read_record(bytes.as_ptr(), bytes.len()) };
+        let Disk { x, y, e, s } = answer.disk;
+        assert_eq!((answer.refusal, x, y, e, s, answer.support.size), (7, 0, 0, 0, 0, 0));
+        assert_eq!(answer.support.points, [ORIGIN; 3]);
+        let answer = unsafe { volkhidar_glyph(bytes.as_ptr(), bytes.len(), 0) };
+        assert_eq!((answer.refusal, answer.start, answer.length), (10, 0, 0));
+    }
+}

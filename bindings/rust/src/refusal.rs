@@ -1,0 +1,74 @@
+use std::error::Error;
+use std::fmt;
+
+/// Why a call turns its input down: the first rule that the input breaks.
+#[derive(Clone, Copy, PartialEq, Eq, Hash, Debug)]
+pub enum Refusal {
+    /// A description or sheet over 65,535 bytes.
+    TooLong = 1,
+    /// A line that is neither blank nor a point.
+    BadLine = 2,
+    /// A point outside the em box.
+    OutsideBox = 3,
+    /// More than 4,096 points.
+    TooMany = 4,
+    /// No point.
+    NoPoint = 5,
+    /// A sheet shorter than its directory, or whose pairs break the rules.
+    BadSheet = 6,
+    /// A record of another length, or not valid; a disk and support set that a valid record could not hold.
+    BadRecord = 7,
+    /// A list under 8,192 numbers; a buffer under 44 bytes.
+    NoRoom = 8,
+    /// A point list of odd length.
+    OddLength = 9,
+    /// A glyph number not below the count.
+    NoGlyph = 10,
+}
+
+impl Refusal {
+    const ALL: [Refusal; 10] = [
+        Refusal::TooLong,
+        Refusal::BadLine,
+        Refusal::OutsideBox,
+        Refusal::TooMany,
+        Refusal::NoPoint,
+        Refusal::BadSheet,
+        Refusal::BadRecord,
+        Refusal::NoRoom,
+        Refusal::OddLength,
+        Refusal::NoGlyph,
+    ];
+
+    /// The number that the C interface and the listing program give it.
+    pub fn number(self) -> u8 {
+        self as u8
+    }
+}
+
+impl fmt::Display for Refusal {
+    fn fmt(&self, f: &mut fmt::Formatter) -> fmt::Result {
+        f.write_str(match self {
+            Refusal::TooLong => "description or sheet over 65,535 bytes",
+            Refusal::BadLine => "a line that is neither blank nor a point",
+            Refusal::OutsideBox => "a point outside the em box",
+            Refusal::TooMany => "more than 4,096 points",
+            Refusal::NoPoint => "no point",
+            Refusal::BadSheet => "sheet shorter than its directory, or its pairs break the rules",
+            Refusal::BadRecord => "a record, or a disk and support set, that is not valid",
+            Refusal::NoRoom => "the list or buffer is too short",
+            Refusal::OddLength => "a point list of odd length",
+            Refusal::NoGlyph => "glyph number not below the count",
+        })
+    }
+}
+
+impl Error for Refusal {}
+
+/// The refusal of a number that a call returned; 0 is none.
+pub(crate) fn checked(number: u64) -> Result<(), Refusal> {
+    match number {
+        0 => Ok(()),
+        n => Err(Refusal::ALL[n as usize - 1]),
+    }
+}

@@ -1,0 +1,85 @@
+use crate::raw;
+
+/// A point of the em box: x from 0 to 1000, y from −250 to 750. Points are ordered by x, then y.
+#[repr(C)]
+#[derive(Clone, Copy, PartialEq, Eq, PartialOrd, Ord, Hash, Debug)]
+pub struct Point {
+    pub x: i16,
+    pub y: i16,
+}
+
+/// Centre (x/e, y/e), squared radius s/e². A disk that a call returns is in lowest terms, so equal disks have equal numbers.
+#[repr(C)]
+#[derive(Clone, Copy, PartialEq, Eq, Hash, Debug)]
+pub struct Disk {
+    pub x: i64,
+    pub y: i64,
+    pub e: u64,
+    pub s: u64,
+}
+
+/// One to three points whose own smallest disk is that of the whole list, in rising order.
+#[derive(Clone, Copy, PartialEq, Eq, Hash, Debug)]
+pub enum SupportSet {
+    One(Point),
+    Two(Point, Point),
+    Three(Point, Point, Point),
+}
+
+impl SupportSet {
+    /// Its points.
+    ///
+    /// ```
+    /// use volkhidar::{Point, SupportSet};
+    ///
+    /// let (a, b) = (Point { x: 0, y: 0 }, Point { x: 3, y: 0 });
+    /// assert_eq!(SupportSet::Two(a, b).points(), [a, b]);
+    /// ```
+    pub fn points(&self) -> Vec<Point> {
+        match *self {
+            SupportSet::One(a) => vec![a],
+            SupportSet::Two(a, b) => vec![a, b],
+            SupportSet::Three(a, b, c) => vec![a, b, c],
+        }
+    }
+}
+
+impl From<SupportSet> for raw::Support {
+    fn from(set: SupportSet) -> raw::Support {
+        match set {
+            SupportSet::One(a) => raw::Support { size: 1, points: [a, a, a] },
+            SupportSet::Two(a, b) => raw::Support { size: 2, points: [a, b, b] },
+            SupportSet::Three(a, b, c) => raw::Support { size: 3, points: [a, b, c] },
+        }
+    }
+}
+
+/// Of a set that a call returned: its size is 1, 2 or 3.
+impl From<raw::Support> for SupportSet {
+    fn from(support: raw::Support) -> SupportSet {
+        let [a, b, c] = support.points;
+        match support.size {
+            1 => SupportSet::One(a),
+            2 => SupportSet::Two(a, b),
+            _ => SupportSet::Three(a, b, c),
+        }
+    }
+}
+
+/// What [`smallest_disk`](crate::smallest_disk) finds.
+#[derive(Clone, Copy, PartialEq, Eq, Hash, Debug)]
+pub struct Enclosed {
+    pub disk: Disk,
+    /// The first support set: the one with the fewest points, and of those the least.
+    pub support: SupportSet,
+    /// The count of containment tests; at most (n³ + 5n) / 6 for n points.
+    pub tests: u64,
+}
+
+/// The centre and the whole radius as floats.
+#[derive(Clone, Copy, PartialEq, Debug)]
+pub struct Preview {
+    pub x: f64,
+    pub y: f64,
+    pub radius: f64,
+}

@@ -1,0 +1,260 @@
+//! The wrappers against the independent implementation in `tests/reference`, on drawn input. Every case has a fixed seed; a failure
+//! names it.
+
+use reference::damage;
+use reference::engine::{flat, points_of, solve};
+use reference::geometry::{Disk as ExpectedDisk, Point as ExpectedPoint};
+use reference::random::Random;
+use reference::{description, figures, letters, lists, record, refusal, sheet};
+use volkhidar::*;
+
+fn number<T>(answer: Result<T, refusal::Refusal>) -> Result<T, u8> {
+    answer.map_err(|refusal| refusal.number())
+}
+
+fn ours<T>(answer: Result<T, Refusal>) -> Result<T, u8> {
+    answer.map_err(|refusal| refusal.number())
+}
+
+fn disk_of(disk: Disk) -> ExpectedDisk {
+    ExpectedDisk { x: disk.x.into(), y: disk.y.into(), e: disk.e.into(), s: disk.s.into() }
+}
+
+fn points(support: SupportSet) -> Vec<ExpectedPoint> {
+    support.points().iter().map(|p| ExpectedPoint::new(p.x, p.y)).collect()
+}
+
+/// The disk and support set for our calls, where their types can hold them.
+fn lent(disk: &ExpectedDisk, support: &[ExpectedPoint]) -> Option<(Disk, SupportSet)> {
+    let at = |i: usize| Point { x: support[i].x, y: support[i].y };
+    let set = match support.len() {
+        1 => SupportSet::One(at(0)),
+        2 => SupportSet::Two(at(0), at(1)),
+        3 => SupportSet::Three(at(0), at(1), at(2)),
+        _ => return None,
+    };
+    let (x, y) = (disk.x.try_into().ok()?, disk.y.try_into().ok()?);
+    Some((Disk { x, y, e: disk.e.try_into().ok()?, s: disk.s.try_into().ok()? }, set))
+}
+
+/// The engine on a list, then radius, preview and record of what it found.
+fn compare_list(list: &[i16], name: &str) {
+    let (mut left, mut expected_left) = (list.to_vec(), list.to_vec());
+    let found = ours(smallest_disk(&mut left));
+    let expected = number(solve(&mut expected_left));
+    assert_eq!(left, expected_left, "order left: {name}");
+    let seen = found.map(|f| (disk_of(f.disk), points(f.support), f.tests));
+    assert_eq!(seen, expected.map(|a| (a.disk, a.support, a.tests)), "{name}");
+    if let Ok(found) = found {
+        compare_figures(found.disk, found.support, name);
+        compare_writer(found.disk, found.support, 60, name);
+    }
+}
+
+fn compare_figures(disk: Disk, support: SupportSet, name: &str) {
+    let (d, t) = (disk_of(disk), points(support));
+    assert_eq!(ours(whole_radius(disk, support)), number(figures::whole_radius(&d, &t)), "radius: {name}");
+    let bits = |p: Preview| [p.x, p.y, p.radius].map(f64::to_bits);
+    let expected = number(figures::preview(&d, &t)).map(|p| p.bits());
+    assert_eq!(ours(preview(disk, support)).map(bits), expected, "preview: {name}");
+}
+
+fn compare_writer(disk: Disk, support: SupportSet, room: usize, name: &str) {
+    let (mut buffer, mut expected_buffer) = (vec![0xEE; room], vec![0xEE; room]);
+    let written = ours(write_record(disk, support, &mut buffer));
+    let expected = number(record::write(&disk_of(disk), &points(support), &mut expected_buffer));
+    assert_eq!((written, &buffer), (expected, &expected_buffer), "writer: {name}");
+    if written.is_ok() {
+        assert_eq!(read_record(&buffer[..RECORD_LENGTH]), Ok((disk, support)), "read back: {name}");
+    }
+}
+
+fn compare_reader(bytes: &[u8], name: &str) {
+    let seen = ours(read_record(bytes));
+    let expected = number(record::read(bytes));
+    assert_eq!(seen.map(|(d, t)| (disk_of(d), points(t))), expected, "reader: {name}");
+    if let Ok((disk, support)) = seen {
+        let mut again = [0; RECORD_LENGTH];
+        assert_eq!(write_record(disk, support, &mut again), Ok(()), "{name}");
+        assert_eq!(again[..], *bytes, "written again: {name}");
+    }
+}
+
+/// What the whole way gives by the reference's calls, one after the other.
+fn expected_record(text: &[u8], buffer: &mut [u8]) -> Result<(), u8> {
+    if buffer.len() < RECORD_LENGTH {
+        return Err(8);
+    }
+    let mut list = flat(&number(description::points_of(text))?);
+    let answer = number(solve(&mut list))?;
+    number(record::write(&answer.disk, &answer.support, buffer))
+}
+
+fn compare_description(text: &[u8], room: usize, name: &str) {
+    let (mut list, mut expected_list) = (vec![-7; room], vec![-7; room]);
+    let loaded = ours(load(text, &mut list));
+    assert_eq!(loaded, number(description::load(text, &mut expected_list)), "loader: {name}");
+    assert_eq!(list, expected_list, "the loader's list: {name}");
+    for length in [44, 50, 43] {
+        let (mut buffer, mut expected_buffer) = (vec![0xEE; length], vec![0xEE; length]);
+        let written = ours(record_of(text, &mut buffer));
+        let expected = expected_record(text, &mut expected_buffer);
+        assert_eq!((written, buffer), (expected, expected_buffer), "whole way: {name}");
+    }
+}
+
+fn compare_sheet(bytes: &[u8], k: usize, name: &str) {
+    assert_eq!(ours(glyph(bytes, k)), number(sheet::glyph(bytes, k)), "sheet: {name}");
+}
+
+fn drawn_bytes(random: &mut Random, longest: usize, from: &[u8]) -> Vec<u8> {
+    let length = random.below(longest + 1);
+    (0..length).map(|_| if from.is_empty() { random.word() as u8 } else { random.pick(from) }).collect()
+}
+
+#[test]
+fn letters_of_the_papers() {
+    for letter in &letters::LETTERS {
+        let mut list = flat(&letters::points(letter.list));
+        let found = smallest_disk(&mut list).unwrap();
+        let (x, y, e, s) = letter.disk;
+        assert_eq!(disk_of(found.disk), ExpectedDisk { x, y, e, s }, "{}", letter.name);
+        assert_eq!(points(found.support), letters::points(letter.support), "{}", letter.name);
+        assert_eq!(whole_radius(found.disk, found.support), Ok(letter.radius), "{}", letter.name);
+        assert_eq!(found.tests, letter.tests, "{}", letter.name);
+        assert_eq!(points_of(&list), letters::points(letter.left), "{}", letter.name);
+    }
+}
+
+#[test]
+fn drawn_lists() {
+    for case in lists::mixed(200_000, 24) {
+        compare_list(&flat(&case.points), &case.name);
+    }
+}
+
+#[test]
+fn long_lists() {
+    for case in lists::long() {
+        compare_list(&flat(&case.points), &case.name);
+    }
+}
+
+#[test]
+fn damaged_lists() {
+    for seed in 0..50_000 {
+        compare_list(&damage::point_list(&mut Random::new(seed)), &format!("seed {seed}"));
+    }
+    for length in [0, 1, 2, 8_191, 8_192, 8_193, 8_194] {
+        compare_list(&vec![7; length], &format!("{length} numbers"));
+        compare_list(&vec![-1; length], &format!("{length} numbers outside"));
+    }
+}
+
+#[test]
+fn drawn_descriptions() {
+    for seed in 0..50_000 {
+        let mut random = Random::new(seed);
+        let text = damage::description(&mut random);
+        let room = random.pick(&[8_192, 8_192, 8_192, 8_193, 8_191, 0]);
+        compare_description(&text, room, &format!("seed {seed}"));
+    }
+}
+
+#[test]
+fn descriptions_at_the_limits() {
+    for count in [4_095, 4_096, 4_097] {
+        let mut text = b"1 2\n".repeat(count);
+        compare_description(&text, 8_192, &format!("{count} points"));
+        text.extend(b"\n  \n1001 0\nx");
+        compare_description(&text, 8_192, &format!("{count} points and faults"));
+    }
+    for length in [65_534, 65_535, 65_536] {
+        let mut text = vec![b' '; length];
+        compare_description(&text, 8_192, &format!("{length} spaces"));
+        text[..3].copy_from_slice(b"0 0");
+        compare_description(&text, 8_192, &format!("{length} bytes with a point"));
+    }
+}
+
+#[test]
+fn descriptions_of_one_set() {
+    for seed in 0..20_000 {
+        let mut random = Random::new(seed);
+        let n = 1 + random.below(9);
+        let mut points = lists::draw(random.pick(&lists::KINDS), n, &mut random);
+        let text = damage::styled(&points, &mut random);
+        let repeated = random.pick(&points);
+        points.push(repeated);
+        random.shuffle(&mut points);
+        let other = damage::styled(&points, &mut random);
+        let (mut record, mut other_record) = ([0; RECORD_LENGTH], [1; RECORD_LENGTH]);
+        assert_eq!(record_of(&text, &mut record), Ok(()), "seed {seed}");
+        assert_eq!(record_of(&other, &mut other_record), Ok(()), "seed {seed}");
+        assert_eq!(record, other_record, "seed {seed}");
+    }
+}
+
+#[test]
+fn drawn_sheets() {
+    for seed in 0..200_000 {
+        let case = damage::sheet(&mut Random::new(seed));
+        compare_sheet(&case.bytes, case.k.into(), &format!("seed {seed}"));
+    }
+    for length in [65_535, 65_536] {
+        compare_sheet(&vec![0; length], 0, &format!("{length} zeros"));
+        compare_sheet(&vec![255; length], usize::MAX, &format!("{length} times 255"));
+    }
+}
+
+#[test]
+fn drawn_records() {
+    for seed in 0..200_000 {
+        compare_reader(&damage::record(&mut Random::new(seed)), &format!("seed {seed}"));
+    }
+}
+
+#[test]
+fn drawn_disks_to_write() {
+    for seed in 0..200_000 {
+        let case = damage::writer(&mut Random::new(seed));
+        if let Some((disk, support)) = lent(&case.disk, &case.support) {
+            let name = format!("seed {seed}");
+            compare_writer(disk, support, case.room.into(), &name);
+            compare_figures(disk, support, &name);
+        }
+    }
+}
+
+/// Bytes with no plan behind them, into every call.
+#[test]
+fn fuzzed_bytes() {
+    for seed in 0..100_000 {
+        let mut random = Random::new(seed);
+        let name = format!("seed {seed}");
+        let any = drawn_bytes(&mut random, 90, &[]);
+        compare_reader(&any, &name);
+        compare_sheet(&any, random.below(4), &name);
+        let few = drawn_bytes(&mut random, 60, &[0, 0, 0, 0, 1, 2, 6, 10]);
+        compare_reader(&few, &name);
+        compare_sheet(&few, random.below(4), &name);
+        compare_record_like(&mut random, &name);
+        compare_list(&any.chunks(2).map(|pair| i16::from(pair[0]) - 20).collect::<Vec<i16>>(), &name);
+        if seed % 4 == 0 {
+            compare_description(&any, 8_192, &name);
+            compare_description(&drawn_bytes(&mut random, 40, b"0123 \n\n -9+x\t\r\0"), 8_192, &name);
+        }
+    }
+}
+
+/// Any numbers at all as a disk and a support set.
+fn compare_record_like(random: &mut Random, name: &str) {
+    let small = |random: &mut Random| random.word() >> random.below(64);
+    let disk = Disk { x: small(random) as i64, y: small(random) as i64, e: small(random), s: small(random) };
+    let point = |random: &mut Random| Point { x: random.word() as i16, y: random.word() as i16 };
+    let (a, b, c) = (point(random), point(random), point(random));
+    let support = random.pick(&[SupportSet::One(a), SupportSet::Two(a, b), SupportSet::Three(a, b, c)]);
+    let room = random.below(60);
+    compare_writer(disk, support, room, name);
+    compare_figures(disk, support, name);
+}

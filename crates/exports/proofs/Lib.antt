@@ -1,0 +1,4 @@
+-- Laws that the proofs of several functions use.
+mod Known
+mod NoSet
+mod Way

@@ -1,0 +1,23 @@
+// Descriptions loaded.
+ghost use mathlib.Core.Path.{_≡_};
+ghost use Rattle.description.specs.Description.{loadOf, listAfter};
+ghost use Rattle.exports.specs.Answers.{loadAnswer};
+use crate::LoadAnswer;
+
+#[no_mangle]
+pub extern "C" fn volkhidar_load(text: &[u8], list: &mut [i16]) -> LoadAnswer
+    ensures { λ r. ⌜ r ≡ loadAnswer (loadOf (now (text .entry)) (now (list .entry))) ⌝ }
+    ensures { λ _. ⌜ now (list .exit) ≡ listAfter (now (text .entry)) (now (list .entry)) ⌝ }
+{
+    let loaded = description::load(text, list);
+    match loaded {
+        description::Loaded::Points(n) => LoadAnswer {
+            refusal: 0,
+            count: n as u64,
+        },
+        description::Loaded::Refused(r) => LoadAnswer {
+            refusal: crate::answer::code(r),
+            count: 0,
+        },
+    }
+}

@@ -1,0 +1,161 @@
+/*
+ * Volkhidar: the smallest disk that holds a letter's points, exact and proved.
+ *
+ * Build the library with `rt staticlib exports` and link target/staticlib/libexports.a; nothing else is needed. README.md has one
+ * command that builds and runs an example. The library is for x86-64 Linux.
+ *
+ * The functions are proved against their definitions for every input that this header allows, and for every such input they return.
+ *
+ * What they share
+ *
+ *   Memory      Nothing is allocated, kept or freed, and there is no global state: every byte belongs to the caller, and a pointer is
+ *               used only during the call. Calls from several threads at once are safe as long as they do not write to the same
+ *               memory. The stack should have 256 KiB free.
+ *   Pointers    A pointer and the length behind it describe one run of memory; the length counts elements. A pointer is never null,
+ *               not even with length 0, and is aligned for its type. In one call, memory that is written overlaps no other argument.
+ *               These are the only things a caller owes; everything else is checked.
+ *   Refusals    An answer begins with `refusal`: 0, or the number of the first rule that the input breaks. Then every other field of
+ *               the answer is 0, and all memory lent to the call is as it was before.
+ *
+ *                  1   description or sheet over 65,535 bytes
+ *                  2   a line that is neither blank nor a point
+ *                  3   a point outside the em box
+ *                  4   more than 4,096 points
+ *                  5   no point
+ *                  6   sheet shorter than its directory, or its pairs break the rules
+ *                  7   a record of another length, or not valid; a disk and support set that a valid record could not hold
+ *                  8   a list under 8,192 numbers; a buffer under 44 bytes
+ *                  9   a point list of odd length
+ *                 10   glyph number not below the count
+ *
+ * docs/FORMATS.md describes descriptions, sheets and records byte by byte.
+ */
+#ifndef VOLKHIDAR_H
+#define VOLKHIDAR_H
+
+#include <stddef.h>
+#include <stdint.h>
+
+#ifdef __cplusplus
+extern "C" {
+#endif
+
+/* Lengths that the checks ask for. */
+#define VOLKHIDAR_MOST_BYTES 65535   /* of a description or a sheet */
+#define VOLKHIDAR_MOST_POINTS 4096   /* of a point list */
+#define VOLKHIDAR_LIST_LENGTH 8192   /* least length of the list that volkhidar_load is lent */
+#define VOLKHIDAR_RECORD_LENGTH 44   /* of a record, in bytes */
+
+/* A point of the em box: x from 0 to 1000, y from -250 to 750. */
+typedef struct {
+    int16_t x, y;
+} volkhidar_point;
+
+/*
+ * Centre (x/e, y/e), squared radius s/e^2. A disk that a call returns has e from 1 to 2,000,000, no common divisor of x, y and e
+ * above 1, its centre in the em box and s at most 500,000 e^2; so each disk has one writing.
+ */
+typedef struct {
+    int64_t x, y;
+    uint64_t e, s;
+} volkhidar_disk;
+
+/*
+ * One to three points whose own smallest disk is that of the whole list. A set that a call returns is in rising order (x, then y), and
+ * its last point is repeated to make three. In a set that is passed to a call the points behind `size` are not looked at; a size
+ * other than 1, 2 or 3 is refused with 7.
+ */
+typedef struct {
+    uint64_t size;
+    volkhidar_point points[3];
+} volkhidar_support;
+
+typedef struct {
+    uint64_t refusal;
+    uint64_t count;
+} volkhidar_load_answer;
+
+typedef struct {
+    uint64_t refusal;
+    uint64_t start, length;
+} volkhidar_glyph_answer;
+
+typedef struct {
+    uint64_t refusal;
+    volkhidar_disk disk;
+    volkhidar_support support;
+    uint64_t tests;
+} volkhidar_disk_answer;
+
+typedef struct {
+    uint64_t refusal;
+    uint64_t radius;
+} volkhidar_radius_answer;
+
+typedef struct {
+    uint64_t refusal;
+    double x, y, radius;
+} volkhidar_preview_answer;
+
+typedef struct {
+    uint64_t refusal;
+    volkhidar_disk disk;
+    volkhidar_support support;
+} volkhidar_record_answer;
+
+/*
+ * Reads a description: a point a line, "x y" in decimal. The points go to the front of `list` in the order of the lines, x and y by
+ * turns; the rest of the list stays. `count` is how many points there are, so the first 2 * count numbers were written.
+ * Refusals, in this order: 8 for a list under 8,192 numbers; 1; the first faulty line, by 2, then 3, then 4; 5.
+ */
+volkhidar_load_answer volkhidar_load(const uint8_t *text, size_t text_length, int16_t *list, size_t list_length);
+
+/*
+ * Finds part k of a sheet, from 0: `length` bytes from byte `start` of the sheet on.
+ * Refusals, in this order: 1, 6, 10.
+ */
+volkhidar_glyph_answer volkhidar_glyph(const uint8_t *sheet, size_t sheet_length, size_t k);
+
+/*
+ * The smallest disk that holds the points of `list`, x and y by turns; its first support set, the least of the smallest; and the count
+ * of containment tests of Welzl's move-to-front procedure on the list as given. The list is left in the order that the procedure
+ * leaves: the same points, each as often as before. For n points the count is at most (n^3 + 5n) / 6.
+ * Refusals, in this order: 9 for an odd length, 5, 4, 3.
+ */
+volkhidar_disk_answer volkhidar_smallest_disk(int16_t *list, size_t list_length);
+
+/*
+ * The whole radius of a disk: the least whole number R with R^2 e^2 at least s.
+ * Refusal: 7 for a disk and support set that a valid record could not hold.
+ */
+volkhidar_radius_answer volkhidar_whole_radius(volkhidar_disk disk, volkhidar_support support);
+
+/*
+ * The centre as x/e and y/e, each divided once and rounded once, and the whole radius.
+ * Refusal: 7 for a disk and support set that a valid record could not hold.
+ */
+volkhidar_preview_answer volkhidar_preview(volkhidar_disk disk, volkhidar_support support);
+
+/*
+ * Writes the record of a disk and its support set into the first 44 bytes of `buffer`; the rest stays. Returns 0 or the refusal.
+ * Refusals, in this order: 8 for a buffer under 44 bytes; 7. That the points belong to the disk is not checked.
+ */
+uint64_t volkhidar_write_record(volkhidar_disk disk, volkhidar_support support, uint8_t *buffer, size_t buffer_length);
+
+/*
+ * Reads a record. What volkhidar_write_record wrote is read back, and what is read, written again, gives its own bytes.
+ * Refusal: 7. That the points belong to the disk is not checked.
+ */
+volkhidar_record_answer volkhidar_read_record(const uint8_t *bytes, size_t length);
+
+/*
+ * From a description to its record in one call: volkhidar_load, volkhidar_smallest_disk on the points that it found, and
+ * volkhidar_write_record of what that gave. The first 44 bytes of `buffer` are written and the rest stays. Returns 0 or the refusal.
+ * Refusals, in this order: 8 for a buffer under 44 bytes; then those of volkhidar_load for the description.
+ */
+uint64_t volkhidar_record_of(const uint8_t *text, size_t text_length, uint8_t *buffer, size_t buffer_length);
+
+#ifdef __cplusplus
+}
+#endif
+#endif
