@@ -1,8 +1,11 @@
 -- Points in rising order, and the sorted list of the different points of a list: laws of `before`, `insert` and `sorted`.
 --
+--   ByCoordinates p q              == p is before q, by x or, where x is the same, by y; by-coordinates, is-before: the test says so
 --   before-trans, before-not-equal : the order is transitive and irreflexive
 --   Placed p q, placed             == the three cases: p is before q, q is before p, or they are equal
 --   insert-ahead, insert-behind, insert-level : `insert` in the three cases
+--   insert-in, insert-new, insert-old         : the points of `insert p Q` are p and those of Q
+--   insert-rises, insert-length               : it rises where Q does, and has at most one point more
 --   sorted-rises, sorted-same, sorted-length  : `sorted P` rises, has the points of P, and is no longer
 use mathlib.Core.Path.{_≡_, refl, sym, _∙_, ap, subst}
 use mathlib.Core.Logic.{_⊎_, inl, inr}
@@ -44,7 +47,7 @@ insert-level p q l e f = rw (e, f)
 
 -- ---- the order
 
-data ByCoordinates (p q : Point) : Type 0 where
+pub data ByCoordinates (p q : Point) : Type 0 where
   by-x : p .x <ℤ q .x → ByCoordinates p q
   by-y : p .x ≡ q .x → p .y <ℤ q .y → ByCoordinates p q
 
@@ -69,7 +72,7 @@ second-test : (a b : Bool) → T b → T (a || b)
 second-test true b t = tt
 second-test false b t = t
 
-by-coordinates : (p q : Point) → T (before p q) → ByCoordinates p q
+pub by-coordinates : (p q : Point) → T (before p q) → ByCoordinates p q
 unfolding before
 by-coordinates p q t = go (either-test (ltZ (p .x) (q .x)) (eqZ (p .x) (q .x) && ltZ (p .y) (q .y)) t)
   where
@@ -78,7 +81,7 @@ by-coordinates p q t = go (either-test (ltZ (p .x) (q .x)) (eqZ (p .x) (q .x) &&
     go (inr h) = by-y (eqZ-eq (p .x) (q .x) (and-left (eqZ (p .x) (q .x)) (ltZ (p .y) (q .y)) h))
         (record { lt = and-right (eqZ (p .x) (q .x)) (ltZ (p .y) (q .y)) h })
 
-is-before : {p q : Point} → ByCoordinates p q → T (before p q)
+pub is-before : {p q : Point} → ByCoordinates p q → T (before p q)
 unfolding before
 is-before {p} {q} (by-x h) = first-test (ltZ (p .x) (q .x)) (eqZ (p .x) (q .x) && ltZ (p .y) (q .y)) (h .lt)
 is-before {p} {q} (by-y e h) = second-test (ltZ (p .x) (q .x)) (eqZ (p .x) (q .x) && ltZ (p .y) (q .y))
@@ -151,7 +154,7 @@ insert-in p (q ∷ l) {x} i = go (λ k. insert-in p l k) (placed p q)
     go f (behind e h) = after f (List·Memᴰ·cases-cons (subst (λ (m : List Point). In x m) (insert-behind p q l e h) i))
     go f (level e h s) = inr (subst (λ (m : List Point). In x m) (insert-level p q l e h) i)
 
-insert-new : (p : Point) (l : List Point) → In p (insert p l)
+pub insert-new : (p : Point) (l : List Point) → In p (insert p l)
 insert-new p [] = rw insert-none (List·Memᴰ·head refl)
 insert-new p (q ∷ l) = go (insert-new p l) (placed p q)
   where
@@ -160,7 +163,7 @@ insert-new p (q ∷ l) = go (insert-new p l) (placed p q)
     go i (behind e h) = rw (insert-behind p q l e h) (List·Memᴰ·tail i)
     go i (level e h s) = rw (insert-level p q l e h) (List·Memᴰ·head s)
 
-insert-old : (p : Point) (l : List Point) {x : Point} → In x l → In x (insert p l)
+pub insert-old : (p : Point) (l : List Point) {x : Point} → In x l → In x (insert p l)
 insert-old p [] i = absurd (List·Memᴰ·not-nil i)
 insert-old p (q ∷ l) {x} i = go (λ k. insert-old p l k) (placed p q)
   where
@@ -173,7 +176,7 @@ insert-old p (q ∷ l) {x} i = go (λ k. insert-old p l k) (placed p q)
     go f (behind e h) = rw (insert-behind p q l e h) (after f (List·Memᴰ·cases-cons i))
     go f (level e h s) = rw (insert-level p q l e h) i
 
-insert-rises : (p : Point) (l : List Point) → Rising l → Rising (insert p l)
+pub insert-rises : (p : Point) (l : List Point) → Rising l → Rising (insert p l)
 insert-rises p [] r = rw insert-none (none-of (λ q. T (before p q)), tt)
 insert-rises p (q ∷ l) r = go (insert-rises p l (r .1)) (placed p q)
   where
@@ -217,7 +220,7 @@ sorted-same l = record { to = to-sorted l; from = from-sorted l }
 
 -- ---- the length
 
-insert-length : (p : Point) (l : List Point) → length (insert p l) ≤ suc (length l)
+pub insert-length : (p : Point) (l : List Point) → length (insert p l) ≤ suc (length l)
 insert-length p [] = rw insert-none (omega arith)
 insert-length p (q ∷ l) = go (insert-length p l) (placed p q)
   where

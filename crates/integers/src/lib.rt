@@ -5,7 +5,7 @@ ghost use lib.IntN.{pos, natAbs};
 ghost use lib.Signed.{quotZ};
 ghost use Rattle.integers.specs.Between.{between};
 ghost use Rattle.integers.specs.Gcd.{gcd};
-ghost use Rattle.integers.specs.LowestTerms.{lowest};
+ghost use Rattle.integers.specs.LowestTerms.{common, lowest};
 
 pub struct Triple {
     pub x: i64,
@@ -47,17 +47,26 @@ fn divided(x: i64, g: u64) -> i64
     x / (g as i64)
 }
 
+// The greatest common divisor of x, y and e. Where e is the smallest by far, as in a disk, the first remainder makes the numbers short.
+pub fn common_divisor(x: i64, y: i64, e: u64) -> u64
+    ensures { λ r. ⌜ r ≡ common x y e ⌝ }
+{
+    let of_x_and_e = gcd_of(magnitude(x), e);
+    gcd_of(magnitude(y), of_x_and_e)
+}
+
 // x, y and e divided by their greatest common divisor: nothing above 1 divides all three numbers of the answer.
 pub fn lowest_terms(x: i64, y: i64, e: u64) -> Triple
     requires { ⌜ 0 < e ⌝ }
     requires { ⌜ e < 2 ^ 63 ⌝ }
     ensures { λ t. ⌜ t ≡ lowest x y e ⌝ }
 {
-    let g = gcd_of(gcd_of(magnitude(x), magnitude(y)), e);
+    let g = common_divisor(x, y, e);
+    let lowest_e = e / g;
     Triple {
         x: divided(x, g),
         y: divided(y, g),
-        e: e / g,
+        e: lowest_e,
     }
 }
 

@@ -91,11 +91,7 @@ fn is_lowest(d: Disk) -> bool
 {
     let x = d.x;
     let y = d.y;
-    integers::gcd_of(
-        integers::gcd_of(integers::magnitude(x), integers::magnitude(y)),
-        d.e,
-    )
-        == 1
+    integers::common_divisor(x, y, d.e) == 1
 }
 
 fn disk_is_valid(d: Disk) -> bool

@@ -3,7 +3,8 @@
 --   Passing Q d R            == a set of points of Q that passes its test: R, or one with fewer points
 --   found-first              : among the boundary points of P's disk, sorted, the search finds the first support set of P
 --   search-finds             : firstFit d (sorted (boundaryOf d P)) ≡ firstSupport P, for d the disk of P, of at least one point
---   search-some, within-limits : it finds some set; and d keeps the limits of 01 where P is in the em box
+--   search-passes            : and that set passes its test
+--   support-some, e-some, within-limits : it has a point; d is not empty, and keeps the limits of 01 where P is in the em box
 use mathlib.Core.Path.{_≡_, refl, sym, _∙_, ap, subst}
 use mathlib.Core.Logic.{_⊎_, inl, inr}
 use mathlib.Core.Bool.{true}
@@ -19,7 +20,7 @@ use Rattle.integers.specs.Order.{≡-cancel}
 use Rattle.geometry.specs.declared.Point.{Point}
 use Rattle.geometry.specs.declared.Disk.{Disk}
 use Rattle.disks.specs.Smallest.{In, Smallest}
-use Rattle.geometry.specs.Plane.{inEmBox, allInEmBox}
+use Rattle.geometry.specs.Plane.{allInEmBox}
 use Rattle.disks.specs.Limits.{Limits}
 use Rattle.disks.specs.Procedure.{diskOf}
 use Rattle.disks.specs.Support.{sorted, candidates, firstOf, firstSupport}
@@ -30,7 +31,7 @@ use Rattle.disks.proofs.Base.{Multiple, multiple-value, point-value, pairDisk, 
 use Rattle.disks.proofs.LiftedProcedure.{mtf}
 use Rattle.disks.proofs.Correct.{mtf-strong}
 use Rattle.disks.proofs.LowestTerms.{Written}
-use Rattle.disks.proofs.StrongSmallest.{strong-smallest}
+use Rattle.disks.proofs.StrongSmallest.{strong-smallest, written-some}
 use Rattle.disks.proofs.Bridge.{strong-written, diskOf-lowered}
 use Rattle.disks.proofs.Unique.{strong-unique, strong-multiple, multiple-sym}
 use Rattle.disks.proofs.Own.{point-own, smallest-strong}
@@ -224,30 +225,31 @@ module _ (p : Point) (P : List Point) where
   unfolding firstFit
   firstFit-support = first-unique (same-refl L) found-first (first-support p P)
 
-  firstFit-some : 1 ≤ length (firstFit d Q)
+  firstFit-passes : Passes (fits d) (candidates Q) (firstFit d Q)
   unfolding firstFit
-  firstFit-some = found-first .supports .some
+  firstFit-passes = there-is (support (mtf-strong p P))
 
 -- ---- for any list of at least one point, and a disk that is its own
 
 module _ (P : List Point) (some : 1 ≤ length P) (d : Disk) (is : d ≡ diskOf P) where
-  pub search-finds : firstFit d (sorted (boundaryOf d P)) ≡ firstSupport P
-  search-finds = subst (λ (c : Disk). firstFit c (sorted (boundaryOf c P)) ≡ firstSupport P) (sym is) (of P some)
+  by-point : (X : Disk → List Point → Type 0) → ((p : Point) (P : List Point) → X (diskOf (p ∷ P)) (p ∷ P)) → X d P
+  by-point X f = subst (λ (c : Disk). X c P) (sym is) (of P some)
     where
-      of : (P : List Point) → 1 ≤ length P → firstFit (diskOf P) (sorted (boundaryOf (diskOf P) P)) ≡ firstSupport P
+      of : (P : List Point) → 1 ≤ length P → X (diskOf P) P
       of [] h = absurd (no-points h)
-      of (p ∷ P) h = firstFit-support p P
+      of (p ∷ P) h = f p P
 
-  pub search-some : 1 ≤ length (firstFit d (sorted (boundaryOf d P)))
-  search-some = subst (λ (c : Disk). 1 ≤ length (firstFit c (sorted (boundaryOf c P)))) (sym is) (of P some)
-    where
-      of : (P : List Point) → 1 ≤ length P → 1 ≤ length (firstFit (diskOf P) (sorted (boundaryOf (diskOf P) P)))
-      of [] h = absurd (no-points h)
-      of (p ∷ P) h = firstFit-some p P
+  pub search-finds : firstFit d (sorted (boundaryOf d P)) ≡ firstSupport P
+  search-finds = by-point (λ d P. firstFit d (sorted (boundaryOf d P)) ≡ firstSupport P) firstFit-support
+
+  pub search-passes : Passes (fits d) (candidates (sorted (boundaryOf d P))) (firstFit d (sorted (boundaryOf d P)))
+  search-passes = by-point (λ d P. Passes (fits d) (candidates (sorted (boundaryOf d P))) (firstFit d (sorted (boundaryOf d P)))) firstFit-passes
+
+  pub support-some : 1 ≤ length (firstSupport P)
+  support-some = by-point (λ d P. 1 ≤ length (firstSupport P)) (λ p P. first-support p P .supports .some)
+
+  pub e-some : 1 ≤ d .e
+  e-some = by-point (λ d P. 1 ≤ d .e) (λ p P. written-some (proper p P) (w p P))
 
   pub within-limits : allInEmBox P ≡ true → Limits d
-  within-limits boxed = subst Limits (sym is) (of P some (box-members P boxed))
-    where
-      of : (P : List Point) → 1 ≤ length P → ((p : Point) → In p P → T (inEmBox p)) → Limits (diskOf P)
-      of [] h f = absurd (no-points h)
-      of (p ∷ P) h f = limits p P f
+  within-limits = by-point (λ d P. allInEmBox P ≡ true → Limits d) (λ p P boxed. limits p P (box-members (p ∷ P) boxed))

@@ -5,3 +5,4 @@ pub mod Boundary
 pub mod Left
 pub mod SetTests
 pub mod Found
+pub mod Kept

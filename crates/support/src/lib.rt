@@ -11,8 +11,10 @@ ghost use lib.ListN.{length};
 ghost use Rattle.geometry.specs.Plane.{inEmBox, allInEmBox, members};
 ghost use Rattle.geometry.specs.Points.{points, firstPoints};
 ghost use Rattle.disks.specs.Limits.{Limits};
-ghost use Rattle.disks.specs.Support.{insert, sorted, firstSupport};
-ghost use Rattle.support.specs.Search.{onBoundaryTest, boundaryOf, midway, opposite, acuteAt, acute, firstFit, Small, SmallDisk, Asked};
+ghost use Rattle.disks.specs.Smallest.{In};
+ghost use Rattle.disks.specs.Support.{insert, firstSupport};
+ghost use Rattle.support.specs.Search.{onBoundaryTest, midway, opposite, acuteAt, acute, firstFit, Small, SmallDisk, Asked};
+ghost use Rattle.support.specs.Span.{strictlyWithin, Spans};
 ghost use Rattle.support.specs.Place.{placeOf, putAt, insertedAt};
 
 // Where a point goes in a rising list: at a place, or nowhere since it is there.
@@ -139,20 +141,55 @@ fn insert_point(list: &mut [i16], n: usize, p: Point) -> usize
     }
 }
 
-// Writes the points of the list on the disk's boundary to `out`, rising and each once, and returns how many there are. They are taken from
-// the last on, as `sorted` has it.
+// The x of two opposite points of the boundary. No point with an x strictly between them is in the first support set.
+struct Span {
+    lo: i16,
+    hi: i16,
+}
+
+fn is_spanned(span: Span, x: i16) -> bool
+    ensures { λ r. ⌜ r ≡ strictlyWithin span x ⌝ }
+{
+    span.lo < x && x < span.hi
+}
+
+// The span of p and its opposite, where that is among the first n points of the list; else, and for a few points, the span given.
+fn span_with(list: &[i16], n: usize, disk: Disk, p: Point, span: Span) -> Span
+    requires { ⌜ (2 * n ≤ length (now list)) × SmallDisk disk ⌝ }
+    requires { ⌜ In p (firstPoints n (now list)) × Spans disk (firstPoints n (now list)) span ⌝ }
+    ensures { λ r. ⌜ Spans disk (firstPoints n (now (list .entry))) r ⌝ }
+{
+    if n <= 8 {
+        return span;
+    }
+    for k in 0..n {
+        let q = geometry::point_at(list, k);
+        if is_opposite(disk, p, q) {
+            if p.x < q.x {
+                return Span { lo: p.x, hi: q.x };
+            }
+            return Span { lo: q.x, hi: p.x };
+        }
+    }
+    span
+}
+
+// Writes points of the list on the disk's boundary to `out`, rising and each once, and returns how many there are: those among which the
+// search finds the first support set. They are taken from the last on.
 fn collect(list: &[i16], disk: Disk, out: &mut [i16]) -> usize
-    requires { ⌜ Limits disk × (allInEmBox (points (now list)) ≡ true) × (length (now list) ≤ length (now out)) ⌝ }
-    ensures size { λ r. ⌜ r ≡ length (sorted (boundaryOf disk (points (now (list .entry))))) ⌝ }
-    ensures left { λ r. ⌜ firstPoints r (now (out .exit)) ≡ sorted (boundaryOf disk (points (now (list .entry)))) ⌝ }
+    requires { ⌜ Asked (now list) disk × (length (now list) ≤ length (now out)) ⌝ }
+    ensures room { λ r. ⌜ 2 * r ≤ length (now (out .exit)) ⌝ }
+    ensures left { λ r. ⌜ firstFit disk (firstPoints r (now (out .exit))) ≡ firstSupport (points (now (list .entry))) ⌝ }
 {
     let mut m: usize = 0;
+    let mut span = Span { lo: 0, hi: 0 };
     let mut i = list.len() / 2;
     while 0 < i {
         i -= 1;
         let p = geometry::point_at(list, i);
-        if on_boundary(disk, p) {
+        if !is_spanned(span, p.x) && on_boundary(disk, p) {
             m = insert_point(out, m, p);
+            span = span_with(out, m, disk, p, span);
         }
     }
     m

@@ -1,18 +1,12 @@
 -- `geometry::is_before` meets its contract: two tests of x, then one of y.
-use mathlib.Core.Path.{_≡_, sym, ap₂, _∙_}
-use lib.IntN.{ℤ}
-use lib.Signed.{ltZ}
+use mathlib.Core.Path.{sym, _∙_}
 use mir.Syntax.{w16}
-use mir.Val.{SFits, toZ, ofZ}
-use mir.Facts.{toZ-ofZ}
+use mir.Val.{SFits}
 use Rattle.geometry.specs.declared.Point.{Point}
+use Rattle.geometry.proofs.Coordinates.{compared}
 use Rattle.geometry.proofs.PointOrder.{before-left, before-right, before-level}
 use Rattle.geometry.proofs.is_before.Statement.{statement}
 use Rattle.geometry.proofs.is_before.Tie as tie
-
--- a test of two coordinates, of the numbers that the machine reads back
-test : {a b : ℤ} → SFits w16 a → SFits w16 b → ltZ (toZ w16 (ofZ w16 a)) (toZ w16 (ofZ w16 b)) ≡ ltZ a b
-test f g = ap₂ ltZ (toZ-ofZ f) (toZ-ofZ g)
 
 module _ (c : tie.After-struct-told2) where
   abbrev p : Point
@@ -34,20 +28,20 @@ module _ (c : tie.After-struct-told2) where
   qy = record { sfits = c .struct-told2 .given .1 .0 .1 }
 
 returns : tie.Need-returns
-returns c = let s = c .before in before-left (p s) (q s) (sym (test (px s) (qx s)) ∙ c .if1 .taken)
+returns c = let s = c .before in before-left (p s) (q s) (sym (compared (px s) (qx s)) ∙ c .if1 .taken)
 
 returns-2 : tie.Need-returns-2
 returns-2 c =
     let s = c .before .before .before .before .before .before in
-    before-right (p s) (q s) (sym (test (qx s) (px s)) ∙ c .if2 .taken)
+    before-right (p s) (q s) (sym (compared (qx s) (px s)) ∙ c .if2 .taken)
 
 returns-3 : tie.Need-returns-3
 returns-3 c =
     let level = c .before .before .before .before in
     let first = level .before .before .before .before .before in
     let s = first .before in
-    test (py s) (qy s)
-    ∙ before-level (p s) (q s) (sym (test (px s) (qx s)) ∙ first .if1 .left) (sym (test (qx s) (px s)) ∙ level .if2 .left)
+    compared (py s) (qy s)
+    ∙ before-level (p s) (q s) (sym (compared (px s) (qx s)) ∙ first .if1 .left) (sym (compared (qx s) (px s)) ∙ level .if2 .left)
 
 pub is-before-spec : {M : Type 1} → statement M
 is-before-spec = tie.close (tie.spec returns returns-2 returns-3)

@@ -1,54 +1,37 @@
--- `support::search_in` meets its contract: what `collect` gives to `search` are the boundary points, sorted, and among them the search
--- finds the first support set.
+-- `support::search_in` meets its contract: among the points that `collect` gives to `search`, it finds the first support set.
 use borrow.Author.Needs.{needs}
-use mathlib.Core.Path.{_≡_, sym, ap, subst, _∙_}
+use mathlib.Core.Path.{sym, subst, _∙_}
 use mathlib.Core.List.{List}
 use Prim.Native.Nat.{_≤_}
-use native.Mathlib.Omega.{arith}
 use lib.ListN.{length}
 use Rattle.geometry.specs.declared.Point.{Point}
 use Rattle.geometry.specs.Points.{points}
-use Rattle.disks.specs.Limits.{Limits}
-use Rattle.disks.proofs.Rising.{sorted-length}
-use Rattle.support.specs.Search.{boundaryOf, firstFit}
 use Rattle.support.proofs.Numbers.{limits-small}
-use Rattle.support.proofs.PointRows.{points-some, points-length}
-use Rattle.support.proofs.Boundary.{boundary-length}
-use Rattle.support.proofs.Found.{search-finds, search-some, within-limits}
+use Rattle.support.proofs.PointRows.{points-some}
+use Rattle.support.proofs.Found.{support-some, within-limits}
 use Rattle.support.proofs.search_in.Statement.{statement}
 use Rattle.support.proofs.search_in.Tie as tie
 
-module _ (s : tie.Start) where
-  abbrev P : List Point
-  P = points (s .args .list .now)
-
-  some : 1 ≤ length P
-  some = points-some (s .args .list .now) (s .pre .0 .some)
-
-  in-limits : Limits (s .args .disk)
-  in-limits = within-limits P some (s .args .disk) (s .pre .0 .smallest) (s .pre .0 .boxed)
-
 collect-requires : tie.Need-collect-requires
-collect-requires c κs = (in-limits (c .before), c .before .pre .0 .boxed, c .before .pre .1)
+collect-requires c κs = c .before .pre
 
 search-requires : tie.Need-search-requires
 search-requires c κs =
     let m = c .before .before in
     let s = m .before .before in
-    let d = s .args .disk in (
-      omega (arith, m .collect .kept .1 .1 .0, m .collect .ensures .0, sorted-length (boundaryOf d (P s)), boundary-length d (P s), points-length (s .args .list .now), s .pre .1),
-      limits-small d (in-limits s),
-      subst (λ (Q : List Point). 1 ≤ length (firstFit d Q)) (sym (m .collect .ensures .1)) (search-some (P s) (some s) d (s .pre .0 .smallest)),
+    let d = s .args .disk in
+    let P = points (s .args .list .now) in
+    let some = points-some (s .args .list .now) (s .pre .0 .some) in (
+      m .collect .ensures .0,
+      limits-small d (within-limits P some d (s .pre .0 .smallest) (s .pre .0 .boxed)),
+      subst (λ (S : List Point). 1 ≤ length S) (sym (m .collect .ensures .1)) (support-some P some d (s .pre .0 .smallest)),
     )
 
 same-length : tie.Need-same-length
 same-length c = search needs
 
 returns : tie.Need-returns
-returns c =
-    let m = c .before .before .before in
-    let s = m .before .before in
-    c .search .ensures ∙ ap (firstFit (s .args .disk)) (m .collect .ensures .1) ∙ search-finds (P s) (some s) (s .args .disk) (s .pre .0 .smallest)
+returns c = c .search .ensures ∙ c .before .before .before .collect .ensures .1
 
 pub search-in-spec : {M : Type 1} → statement M
 search-in-spec = tie.close (tie.spec collect-requires search-requires same-length returns)

@@ -1,0 +1,222 @@
+-- The points that `collect` keeps: boundary points with a spanned x can be left out.
+--
+--   Kept d B Q          == Q rises, its points are of B, and those of B that are not in Q are spanned by points of Q
+--   across-spans, opposite-swap : what two opposite points span, whichever comes first
+--   kept-none, kept-put, kept-spanned : at the start, with a point put in, and with a spanned one left out
+--   spanned-more        : what is spanned stays so with a point put in
+--   kept-finds          : the first set of Q that passes its test is the first support set, where B are the boundary points of a list
+use mathlib.Core.Path.{_≡_, sym, _∙_, ap, ap₂, subst}
+use mathlib.Core.Logic.{_⊎_, inl, inr}
+use mathlib.Core.Bool.{true, _&&_}
+use mathlib.Core.List.{List, [], _∷_, List·Memᴰ·head, List·Memᴰ·tail, List·Memᴰ·cases-cons, List·Memᴰ·not-nil, List·Memᴰ·eq-of-singleton}
+use Prim.Native.Nat.{_≤_}
+use native.Mathlib.Omega.{arith}
+use lib.Dec.{T, eqb→eq}
+use lib.IntN.{ℤ, pos, negsuc, _+ℤ_, _-ℤ_, _*ℤ_}
+use lib.ListN.{length}
+use lib.Signed.{_<ℤ_, _≤ℤ_}
+use Rattle.integers.specs.Bounds.{and-left}
+use Rattle.integers.specs.Laws.{+-comm, eq-of-sub}
+use Rattle.integers.specs.Ring.{poly, linear, eqn, _&_}
+use Rattle.integers.specs.Order.{≤-of-eq, ≤-of-<, <-≤-clash, <-trans, ≡-cancel, sum-squares-zero, nonneg, le, eq, _⊞_}
+use Rattle.geometry.specs.declared.Point.{Point}
+use Rattle.geometry.specs.declared.Disk.{Disk}
+use Rattle.geometry.specs.Plane.{distance}
+use Rattle.geometry.specs.Order.{before, eqZ}
+use Rattle.disks.specs.Smallest.{In}
+use Rattle.disks.specs.Procedure.{diskOf}
+use Rattle.disks.specs.Support.{insert, sorted, candidates, firstSupport}
+use Rattle.disks.specs.FirstSupport.{Rising, Earlier, fewer, lexical, Lexical, here, there}
+use Rattle.disks.proofs.Minimal.{Same, none-of, also}
+use Rattle.disks.proofs.Base.{positive-not-zero}
+use Rattle.disks.proofs.StrongSmallest.{some-positive}
+use Rattle.disks.proofs.Rising.{ByCoordinates, by-x, by-y, by-coordinates, is-before, eqZ-eq, insert-in, insert-new, insert-old, insert-rises, sorted-rises, sorted-same}
+use Rattle.disks.proofs.Choose.{Among}
+use Rattle.disks.proofs.First.{Passes, first-passes, Candidate, candidate, a-candidate, candidates-earlier, earlier-asym}
+use Rattle.support.specs.Search.{onBoundaryTest, boundaryOf, midway, opposite, fits, firstFit}
+use Rattle.support.specs.Span.{Spanned}
+use Rattle.support.proofs.Boundary.{boundary-in}
+use Rattle.support.proofs.Found.{search-finds, search-passes, e-some}
+
+pub record Kept (d : Disk) (B Q : List Point) : Type 0 where
+  pub rises : Rising Q
+  pub inside : (x : Point) → In x Q → In x B
+  pub covered : (x : Point) → In x B → In x Q ⊎ Spanned d Q (x .x)
+
+-- ---- what two opposite points span
+
+pub across-spans : (d : Disk) (Q : List Point) (a b : Point) → In a Q → In b Q → opposite d a b ≡ true → {lo hi : ℤ} → lo ≡ a .x → hi ≡ b .x → (z : ℤ) → lo <ℤ z → z <ℤ hi → Spanned d Q z
+across-spans d Q a b i j o e f z h k = record { a = a; b = b; a-in = i; b-in = j; across = subst T (sym o) tt; left = subst (λ (y : ℤ). y <ℤ z) e h; right = subst (λ (y : ℤ). z <ℤ y) f k }
+
+pub opposite-swap : (d : Disk) (a b : Point) → opposite d a b ≡ opposite d b a
+unfolding opposite midway
+opposite-swap d a b = ap₂ (λ (x y : ℤ). eqZ (x *ℤ pos (d .e)) (pos 2 *ℤ d .x) && eqZ (y *ℤ pos (d .e)) (pos 2 *ℤ d .y)) (+-comm (a .x) (b .x)) (+-comm (a .y) (b .y))
+
+-- ---- one point more
+
+pub kept-none : (d : Disk) → Kept d [] []
+kept-none d = record { rises = tt; inside = λ x i. i; covered = λ x i. inl i }
+
+pub spanned-more : (d : Disk) (Q : List Point) (p : Point) (z : ℤ) → Spanned d Q z → Spanned d (insert p Q) z
+spanned-more d Q p z s = record { a = s .a; b = s .b; a-in = insert-old p Q (s .a-in); b-in = insert-old p Q (s .b-in); across = s .across; left = s .left; right = s .right }
+
+pub kept-put : (d : Disk) (B Q : List Point) (p : Point) → Kept d B Q → Kept d (p ∷ B) (insert p Q)
+kept-put d B Q p k = record { rises = insert-rises p Q (k .rises); inside = λ x i. of x (insert-in p Q i); covered = λ x i. now-covered x (List·Memᴰ·cases-cons i) }
+  where
+    of : (x : Point) → (x ≡ p) ⊎ In x Q → In x (p ∷ B)
+    of x (inl e) = List·Memᴰ·head e
+    of x (inr i) = List·Memᴰ·tail (k .inside x i)
+
+    still : (x : Point) → In x Q ⊎ Spanned d Q (x .x) → In x (insert p Q) ⊎ Spanned d (insert p Q) (x .x)
+    still x (inl i) = inl (insert-old p Q i)
+    still x (inr s) = inr (spanned-more d Q p (x .x) s)
+
+    now-covered : (x : Point) → (x ≡ p) ⊎ In x B → In x (insert p Q) ⊎ Spanned d (insert p Q) (x .x)
+    now-covered x (inl e) = inl (subst (λ (y : Point). In y (insert p Q)) (sym e) (insert-new p Q))
+    now-covered x (inr i) = still x (k .covered x i)
+
+pub kept-spanned : (d : Disk) (B Q : List Point) (p : Point) → Spanned d Q (p .x) → Kept d B Q → Kept d (p ∷ B) Q
+kept-spanned d B Q p s k = record { rises = k .rises; inside = λ x i. List·Memᴰ·tail (k .inside x i); covered = λ x i. now-covered x (List·Memᴰ·cases-cons i) }
+  where
+    now-covered : (x : Point) → (x ≡ p) ⊎ In x B → In x Q ⊎ Spanned d Q (x .x)
+    now-covered x (inl e) = inr (subst (λ (y : Point). Spanned d Q (y .x)) (sym e) s)
+    now-covered x (inr i) = k .covered x i
+
+-- ---- opposite points
+
+not-after : {p q : Point} → ByCoordinates p q → p .x ≤ℤ q .x
+not-after (by-x h) = ≤-of-< h
+not-after (by-y e h) = ≤-of-eq e
+
+same-x : (a b e c : ℤ) → pos 0 <ℤ e → a *ℤ e ≡ c → b *ℤ e ≡ c → a ≡ b
+same-x a b e c he h k = ≡-cancel (positive-not-zero he) (linear (a ∷ b ∷ e ∷ c ∷ []) (eqn (pos 1) h & eqn (negsuc 0) k) (search poly depth 30) tt)
+
+same-sum : (a b s t e c : ℤ) → pos 0 <ℤ e → (a +ℤ b) *ℤ e ≡ c → (s +ℤ t) *ℤ e ≡ c → a +ℤ b ≡ s +ℤ t
+same-sum a b s t e c he h k = same-x (a +ℤ b) (s +ℤ t) e c he h k
+
+-- of two pairs with the same sum, the one with the smaller first number has the larger second
+wider : (a b s t : ℤ) → a +ℤ b ≡ s +ℤ t → s ≤ℤ a → b ≤ℤ t
+wider a b s t e h = nonneg (a ∷ b ∷ s ∷ t ∷ []) (le h ⊞ eq (negsuc 0) e) (search poly depth 30) tt
+
+module _ (d : Disk) (proper : 1 ≤ d .e) where
+  abbrev E : ℤ
+  E = pos (d .e)
+
+  across-x : (a b : Point) → T (opposite d a b) → (a .x +ℤ b .x) *ℤ E ≡ pos 2 *ℤ d .x
+  unfolding opposite midway
+  across-x a b t = eqZ-eq ((a .x +ℤ b .x) *ℤ E) (pos 2 *ℤ d .x) (and-left (midway (a .x) (b .x) (d .e) (d .x)) (midway (a .y) (b .y) (d .e) (d .y)) t)
+
+  sum-x : (a b s t : Point) → T (opposite d a b) → T (opposite d s t) → a .x +ℤ b .x ≡ s .x +ℤ t .x
+  sum-x a b s t h k = same-sum (a .x) (b .x) (s .x) (t .x) E (pos 2 *ℤ d .x) (some-positive proper) (across-x a b h) (across-x s t k)
+
+  -- a disk of radius 0 has one point on its boundary, at its centre
+  centre-x : (a : Point) → T (onBoundaryTest d a) → d .s ≡ 0 → a .x *ℤ E ≡ d .x
+  unfolding onBoundaryTest
+  centre-x a t z = eq-of-sub (a .x *ℤ E) (d .x) (sum-squares-zero (a .x *ℤ E -ℤ d .x) (a .y *ℤ E -ℤ d .y) (eqZ-eq (distance d a) (pos (d .s)) t ∙ ap pos z) .0)
+
+  -- ---- a set that comes before a pair of opposite points has no point strictly between them
+
+  module _ (B Q : List Point) (on : (x : Point) → In x B → T (onBoundaryTest d x)) (k : Kept d B Q) where
+    module _ (z : ℤ) (u : Spanned d Q z) where
+      apart : u .a .x <ℤ u .b .x
+      apart = <-trans (u .left) (u .right)
+
+      no-single : d .s ≡ 0 → ⊥
+      no-single e = <-≤-clash apart (≤-of-eq (same-x (u .b .x) (u .a .x) E (d .x) (some-positive proper) (at (u .b) (u .b-in)) (at (u .a) (u .a-in))))
+        where
+          at : (x : Point) → In x Q → x .x *ℤ E ≡ d .x
+          at x i = centre-x x (on x (k .inside x i)) e
+
+      -- of an opposite pair s t with s not behind a: neither has the x that is spanned
+      off-first : (s t : Point) → s .x ≤ℤ u .a .x → s .x ≡ z → ⊥
+      off-first s t h e = <-≤-clash (u .left) (subst (λ (y : ℤ). y ≤ℤ u .a .x) e h)
+
+      off-second : (s t : Point) → T (opposite d s t) → s .x ≤ℤ u .a .x → t .x ≡ z → ⊥
+      off-second s t o h e =
+          <-≤-clash (u .right) (subst (λ (y : ℤ). u .b .x ≤ℤ y) e (wider (u .a .x) (u .b .x) (s .x) (t .x) (sum-x (u .a) (u .b) s t (u .across) o) h))
+
+    -- the points of the first set are kept
+    found-kept : (S : List Point) → 1 ≤ length S → T (fits d S) → (x : Point) → In x S → (u : Spanned d Q (x .x)) → ((u .a ∷ u .b ∷ []) ≡ S) ⊎ Earlier S (u .a ∷ u .b ∷ []) → In x Q
+    unfolding fits
+    found-kept S some t x i u (inl e) = both (List·Memᴰ·cases-cons (subst (In x) (sym e) i))
+      where
+        both : (x ≡ u .a) ⊎ In x (u .b ∷ []) → In x Q
+        both (inl f) = subst (λ (y : Point). In y Q) (sym f) (u .a-in)
+        both (inr j) = subst (λ (y : Point). In y Q) (sym (List·Memᴰ·eq-of-singleton j)) (u .b-in)
+    found-kept [] some t x i u (inr h) = absurd t
+    found-kept (s ∷ []) some t x i u (inr h) = absurd (no-single (x .x) u (eqb→eq (d .s) 0 t))
+    found-kept (s ∷ r ∷ []) some t x i u (inr (fewer h)) = absurd (omega arith)
+    found-kept (s ∷ r ∷ []) some t x i u (inr (lexical e (here h))) = absurd (one-of (List·Memᴰ·cases-cons i))
+      where
+        low : s .x ≤ℤ u .a .x
+        low = not-after (by-coordinates s (u .a) h)
+
+        one-of : (x ≡ s) ⊎ In x (r ∷ []) → ⊥
+        one-of (inl f) = off-first (x .x) u s r low (ap (λ (y : Point). y .x) (sym f))
+        one-of (inr j) = off-second (x .x) u s r t low (ap (λ (y : Point). y .x) (sym (List·Memᴰ·eq-of-singleton j)))
+    found-kept (s ∷ r ∷ []) some t x i u (inr (lexical e (there f h))) = one-of (List·Memᴰ·cases-cons i)
+      where
+        one-of : (x ≡ s) ⊎ In x (r ∷ []) → In x Q
+        one-of (inl g) = subst (λ (y : Point). In y Q) (sym (g ∙ f)) (u .a-in)
+        one-of (inr j) = absurd (off-second (x .x) u s r t (≤-of-eq (ap (λ (y : Point). y .x) f)) (ap (λ (y : Point). y .x) (sym (List·Memᴰ·eq-of-singleton j))))
+    found-kept (s ∷ r ∷ v ∷ S) some t x i u (inr (fewer h)) = absurd (omega arith)
+    found-kept (s ∷ r ∷ v ∷ S) some t x i u (inr (lexical e h)) = absurd (omega arith)
+
+    -- ---- the first set
+
+    module _ (R : List Point) (rises : Rising R) (same : Same B R) (found : Passes (fits d) (candidates R) (firstFit d R)) where
+      abbrev S : List Point
+      S = firstFit d R
+
+      of-R : Candidate R S
+      of-R = candidate R S rises (found .among)
+
+      pair : (x : Point) (u : Spanned d Q (x .x)) → ((u .a ∷ u .b ∷ []) ≡ S) ⊎ Earlier S (u .a ∷ u .b ∷ [])
+      unfolding fits
+      pair x u = found .least (u .a ∷ u .b ∷ []) (a-candidate R (u .a ∷ u .b ∷ []) rises c) (u .across)
+        where
+          in-R : (y : Point) → In y Q → In y R
+          in-R y i = same .to y (k .inside y i)
+
+          c : Candidate R (u .a ∷ u .b ∷ [])
+          c = record {
+            rises = (λ y i. subst (λ (v : Point). T (before (u .a) v)) (sym (List·Memᴰ·eq-of-singleton i)) (is-before (by-x (apart (x .x) u))), (λ y i. absurd (List·Memᴰ·not-nil i), tt));
+            members = also (λ y. In y R) (in-R (u .a) (u .a-in)) (also (λ y. In y R) (in-R (u .b) (u .b-in)) (none-of (λ y. In y R)));
+            some = omega arith;
+            most = omega arith;
+          }
+
+      all-kept : (x : Point) → In x S → In x Q
+      all-kept x i = go (k .covered x (same .from x (of-R .members x i)))
+        where
+          go : In x Q ⊎ Spanned d Q (x .x) → In x Q
+          go (inl j) = j
+          go (inr u) = found-kept S (of-R .some) (found .passes) x i u (pair x u)
+
+      among-Q : Among S (candidates Q)
+      among-Q = a-candidate Q S (k .rises) (record { rises = of-R .rises; members = all-kept; some = of-R .some; most = of-R .most })
+
+      of-Q : Passes (fits d) (candidates Q) (firstFit d Q)
+      unfolding firstFit
+      of-Q = first-passes (fits d) (candidates Q) (candidates-earlier Q (k .rises)) S among-Q (found .passes)
+
+      kept-first : firstFit d Q ≡ firstFit d R
+      kept-first = go (of-Q .least S among-Q (found .passes)) (found .least (firstFit d Q) (a-candidate R (firstFit d Q) rises also-of-R) (of-Q .passes))
+        where
+          c : Candidate Q (firstFit d Q)
+          c = candidate Q (firstFit d Q) (k .rises) (of-Q .among)
+
+          also-of-R : Candidate R (firstFit d Q)
+          also-of-R = record { rises = c .rises; members = λ x i. same .to x (k .inside x (c .members x i)); some = c .some; most = c .most }
+
+          go : (S ≡ firstFit d Q) ⊎ Earlier (firstFit d Q) S → (firstFit d Q ≡ S) ⊎ Earlier S (firstFit d Q) → firstFit d Q ≡ S
+          go (inl e) h = sym e
+          go (inr h) (inl e) = e
+          go (inr h) (inr l) = absurd (earlier-asym h l)
+
+-- ---- the boundary points of a list
+
+pub kept-finds : (P : List Point) → 1 ≤ length P → (d : Disk) → d ≡ diskOf P → (Q : List Point) → Kept d (boundaryOf d P) Q → firstFit d Q ≡ firstSupport P
+kept-finds P some d is Q k =
+    let B = boundaryOf d P in
+    kept-first d (e-some P some d is) B Q (λ x i. boundary-in d P x i .1) k (sorted B) (sorted-rises B) (sorted-same B) (search-passes P some d is) ∙ search-finds P some d is

@@ -1,0 +1,44 @@
+-- `support::is_spanned` meets its contract: two comparisons.
+use mathlib.Core.Path.{_≡_, refl, sym, _∙_}
+use mathlib.Core.Bool.{Bool, true, false, _&&_, true≢false}
+use lib.Signed.{ltZ}
+use mir.Syntax.{w16}
+use mir.Val.{SFits, toZ, ofZ}
+use Rattle.geometry.proofs.Coordinates.{compared}
+use Rattle.support.proofs.is_spanned.Statement.{statement}
+use Rattle.support.proofs.is_spanned.Tie as tie
+
+-- the second test decides where the first holds, and the first where it does not
+second : (a b : Bool) → a ≡ true → b ≡ a && b
+second true b e = refl
+second false b e = absurd (true≢false (sym e))
+
+first : (a b : Bool) → a ≡ false → a ≡ a && b
+first true b e = absurd (true≢false e)
+first false b e = refl
+
+module _ (c : tie.After-struct-told) where
+  abbrev s : tie.Start
+  s = c .before .before
+
+  lo-fits : SFits w16 (s .args .span .lo)
+  lo-fits = record { sfits = c .struct-told .given .0 .1 }
+
+  lo-test : ltZ (toZ w16 (ofZ w16 (s .args .span .lo))) (toZ w16 (ofZ w16 (s .args .x))) ≡ ltZ (s .args .span .lo) (s .args .x)
+  lo-test = compared lo-fits (s .fits .x)
+
+returns : tie.Need-returns
+returns c =
+    let then = c .before .before .before in
+    let l = s then .args .span in
+    let z = s then .args .x in
+    compared (s then .fits .x) (record { sfits = c .struct-told2 .given .1 .0 .1 }) ∙ second (ltZ (l .lo) z) (ltZ z (l .hi)) (sym (lo-test then) ∙ c .before .before .if1 .taken)
+
+returns-2 : tie.Need-returns-2
+returns-2 c =
+    let l = s (c .before) .args .span in
+    let z = s (c .before) .args .x in
+    lo-test (c .before) ∙ first (ltZ (l .lo) z) (ltZ z (l .hi)) (sym (lo-test (c .before)) ∙ c .if1 .left)
+
+pub is-spanned-spec : {M : Type 1} → statement M
+is-spanned-spec = tie.close (tie.spec returns returns-2)
