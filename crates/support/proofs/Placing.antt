@@ -1,20 +1,22 @@
 -- The place of a point in a rising list, and the list with the point in its place.
 --
 --   place-here, place-there, place-later, place-end : the place, by the first point of the list, and in the empty list
+--   behind-not-before              : a point behind another is not before it
 --   Placed p Q j k                 == p goes in at k, in a list Q whose first point has the number j
 --   placed                         : where the place is At k, the point goes in there
 --   there                          : where it is There, the list stays
 --   placed-is, placed-length       : from the number 0 on: the list with the point, which has one more
-use mathlib.Core.Path.{_≡_, refl, ap, _∙_}
+use mathlib.Core.Path.{_≡_, refl, sym, ap, subst, _∙_}
 use mathlib.Core.Bool.{Bool, true, false}
 use mathlib.Core.List.{List, [], _∷_}
 use Prim.Native.Nat.{ℕ, suc, _+_, _-_, _≤_}
 use native.Mathlib.Omega.{arith}
+use lib.Dec.{T}
 use lib.ListN.{length, length-append, length-take, length-drop}
 use Rattle.geometry.specs.declared.Point.{Point}
 use Rattle.geometry.specs.Order.{before}
 use Rattle.disks.specs.Support.{insert}
-use Rattle.disks.proofs.Rising.{insert-ahead, insert-behind, insert-level}
+use Rattle.disks.proofs.Rising.{before-trans, before-not-equal, insert-ahead, insert-behind, insert-level}
 use Rattle.support.specs.declared.Place.the-variants.{At, There}
 use Rattle.support.specs.Place.{placeOf, insertedAt}
 
@@ -30,6 +32,16 @@ module _ (p q : Point) (Q : List Point) where
   pub place-later : (k : ℕ) → before p q ≡ false → before q p ≡ true → placeOf p (q ∷ Q) k ≡ placeOf p Q (k + 1)
   unfolding placeOf
   place-later k e f = rw (e, f)
+
+pub behind-not-before : (p q : Point) → before q p ≡ true → before p q ≡ false
+behind-not-before p q h = go (before p q) refl
+  where
+    is : {b : Bool} → b ≡ true → T b
+    is e = subst T (sym e) tt
+
+    go : (b : Bool) → before p q ≡ b → before p q ≡ false
+    go true e = absurd (before-not-equal p p (before-trans p q p (is e) (is h)) refl)
+    go false e = e
 
 pub place-end : (p : Point) (k : ℕ) → placeOf p [] k ≡ At k
 unfolding placeOf

@@ -91,10 +91,10 @@ fn find_place(list: &[i16], n: usize, p: Point) -> Place
 {
     for k in 0..n {
         let q = geometry::point_at(list, k);
-        if geometry::is_before(p, q) {
-            return Place::At(k);
-        }
         if !geometry::is_before(q, p) {
+            if geometry::is_before(p, q) {
+                return Place::At(k);
+            }
             return Place::There;
         }
     }
@@ -159,7 +159,7 @@ fn span_with(list: &[i16], n: usize, disk: Disk, p: Point, span: Span) -> Span
     requires { ⌜ In p (firstPoints n (now list)) × Spans disk (firstPoints n (now list)) span ⌝ }
     ensures { λ r. ⌜ Spans disk (firstPoints n (now (list .entry))) r ⌝ }
 {
-    if n <= 8 {
+    if n <= 6 {
         return span;
     }
     for k in 0..n {
@@ -188,8 +188,11 @@ fn collect(list: &[i16], disk: Disk, out: &mut [i16]) -> usize
         i -= 1;
         let p = geometry::point_at(list, i);
         if !is_spanned(span, p.x) && on_boundary(disk, p) {
-            m = insert_point(out, m, p);
-            span = span_with(out, m, disk, p, span);
+            let size = insert_point(out, m, p);
+            if m < size {
+                span = span_with(out, size, disk, p, span);
+            }
+            m = size;
         }
     }
     m

@@ -193,7 +193,8 @@ fn move_to_front(list: &mut [i16], i: usize)
 }
 
 // B_MTFDISK on the first n points of the list, with R fixed on the boundary.
-// Each point is tested once here, so that n and the tests of the calls make the count.
+// Each point is tested once here, so that n and the tests of the calls make the count. In front of the first point there is nothing to
+// test, so that a call for it would only give the disk of its R.
 pub fn mtf(list: &mut [i16], n: usize, fixed: Boundary) -> RelativeRun
     requires { ⌜ Given fixed n (now list) ⌝ }
     ensures { λ r. ⌜ Ran fixed n (now (list .entry)) (now (list .exit)) (r .disk) (r .tests) ⌝ }
@@ -206,9 +207,14 @@ pub fn mtf(list: &mut [i16], n: usize, fixed: Boundary) -> RelativeRun
     for i in 0..n {
         let p = geometry::point_at(list, i);
         if is_outside(disk, p) {
-            let again = mtf(list, i, add_point(fixed, p));
-            disk = again.disk;
-            inner += again.tests;
+            let next = add_point(fixed, p);
+            if 0 < i {
+                let again = mtf(list, i, next);
+                disk = again.disk;
+                inner += again.tests;
+            } else {
+                disk = boundary_disk(next);
+            }
             move_to_front(list, i);
         }
     }

@@ -122,34 +122,50 @@ module _ (c : tie.After-insert-point Inv-loop μ-loop) where
       let size : length (Q q) ≡ at q .loop .m = length-firstPoints (at q .loop .m) (at q .loop .out) (omega (arith, at q .loop .inv .0, at q .loop .inv .1, s q .pre .1)) in
       omega (arith, c .insert-point .ensures .0, insert-length (p q) (Q q), size)
 
-span-with-requires : tie.Need-span-with-requires Inv-loop μ-loop
-span-with-requires c κs =
-    let u = c .before .before in
-    let d = s (q u) .args .disk in (
-      (omega (arith, one-more u, u .insert-point .kept .0, at (q u) .loop .inv .0, at (q u) .loop .inv .1, s (q u) .pre .1, q u .before .loop-test .taken), limits-small d (in-limits (s (q u)))),
-      (subst (In (p (q u))) (sym (with-it u)) (insert-new (p (q u)) (Q (q u))), λ z h k. subst (λ (R : List Point). Spanned d R z) (sym (with-it u)) (spanned-more d (Q (q u)) (p (q u)) z (at (q u) .loop .inv .3 z h k))),
-    )
-
 loop-less : tie.Need-loop-less Inv-loop μ-loop
 loop-less c = omega arith
 
+-- what is kept then
+put-in :
+    (u : tie.After-insert-point Inv-loop μ-loop) → let e = q u in let d = s e .args .disk in
+    Kept d (boundaryOf d (drop (at e .loop .i - 1) (points (s e .args .list .now)))) (firstPoints (u .insert-point .result) (u .insert-point .last .0))
+put-in u =
+    let test = u .before .before in
+    let e = q u in
+    let d = s e .args .disk in
+    let R = firstPoints (u .insert-point .result) (u .insert-point .last .0) in
+    let on : onBoundaryTest d (p e) ≡ true = sym (test .before .on-boundary .ensures) ∙ test .if2 .taken in
+    after e R (λ f. subst (Kept d (p e ∷ boundaryOf d (P e))) (sym (with-it u)) (kept-put d (boundaryOf d (P e)) (Q e) (p e) (kept-before e))) (λ f. absurd (true≢false (sym on ∙ f)))
+
+-- what was spanned stays so
+still-spanned :
+    (u : tie.After-insert-point Inv-loop μ-loop) → Spans (s (q u) .args .disk) (firstPoints (u .insert-point .result) (u .insert-point .last .0)) (at (q u) .loop .span)
+still-spanned u z h k =
+    let e = q u in
+    subst (λ (R : List Point). Spanned (s e .args .disk) R z) (sym (with-it u)) (spanned-more (s e .args .disk) (Q e) (p e) z (at e .loop .inv .3 z h k))
+
+span-with-requires : tie.Need-span-with-requires Inv-loop μ-loop
+span-with-requires c κs =
+    let u = c .before .before .before in
+    let e = q u in (
+      (omega (arith, one-more u, u .insert-point .kept .0, at e .loop .inv .0, at e .loop .inv .1, s e .pre .1, e .before .loop-test .taken), limits-small (s e .args .disk) (in-limits (s e))),
+      (subst (In (p e)) (sym (with-it u)) (insert-new (p e) (Q e)), still-spanned u),
+    )
+
 loop-again : tie.Need-loop-again Inv-loop μ-loop
 loop-again c =
-    let u = c .before .before .before in
-    let test = u .before .before in
-    let r = q u in
-    let on : onBoundaryTest (s r .args .disk) (p r) ≡ true = sym (test .before .on-boundary .ensures) ∙ test .if2 .taken in
-    let d = s r .args .disk in
-    let now-kept : Kept d (p r ∷ boundaryOf d (P r)) (firstPoints (u .insert-point .result) (u .insert-point .last .0)) =
-    subst (Kept d (p r ∷ boundaryOf d (P r))) (sym (with-it u)) (kept-put d (boundaryOf d (P r)) (Q r) (p r) (kept-before r)) in (
-      omega (arith, one-more u, at r .loop .inv .0, r .before .loop-test .taken),
-      u .insert-point .kept .0 ∙ at r .loop .inv .1,
-      after r (firstPoints (u .insert-point .result) (u .insert-point .last .0)) (λ e. now-kept) (λ e. absurd (true≢false (sym on ∙ e))),
-      c .span-with .ensures,
-    )
+    let u = c .before .before .before .before in
+    let e = q u in
+    (omega (arith, one-more u, at e .loop .inv .0, e .before .loop-test .taken), u .insert-point .kept .0 ∙ at e .loop .inv .1, put-in u, c .span-with .ensures)
 
 loop-less-2 : tie.Need-loop-less-2 Inv-loop μ-loop
 loop-less-2 c = omega arith
+
+loop-again-2 : tie.Need-loop-again-2 Inv-loop μ-loop
+loop-again-2 c =
+    let u = c .before .before in
+    let e = q u in
+    (omega (arith, one-more u, at e .loop .inv .0, e .before .loop-test .taken), u .insert-point .kept .0 ∙ at e .loop .inv .1, put-in u, still-spanned u)
 
 -- the point is spanned, as the test said
 module _ (c : tie.After-is-spanned Inv-loop μ-loop) where
@@ -165,8 +181,11 @@ module _ (c : tie.After-is-spanned Inv-loop μ-loop) where
       subst (Spanned (s r .args .disk) (Q r)) (toZ-ofZ (record { sfits = c .before .struct-told .given .0 .1 }))
       (at r .loop .inv .3 z (record { lt = and-left (ltZ lo z) (ltZ z hi) within }) (record { lt = and-right (ltZ lo z) (ltZ z hi) within }))
 
-loop-again-2 : tie.Need-loop-again-2 Inv-loop μ-loop
-loop-again-2 c =
+loop-less-3 : tie.Need-loop-less-3 Inv-loop μ-loop
+loop-less-3 c = omega arith
+
+loop-again-3 : tie.Need-loop-again-3 Inv-loop μ-loop
+loop-again-3 c =
     let u = r (c .before) in
     let d = s u .args .disk in
     let B = boundaryOf d (P u) in
@@ -206,5 +225,7 @@ collect-spec =
     loop-again
     loop-less-2
     loop-again-2
+    loop-less-3
+    loop-again-3
     same-length
     returns)

@@ -1,18 +1,17 @@
 -- `support::find_place` meets its contract. The invariant: what is left to look at gives the place.
 use borrow.Author.Needs.{needs}
 use mathlib.Core.Path.{_≡_, refl, sym, ap, _∙_}
-use mathlib.Core.Bool.{false}
-use mathlib.Core.List.{_∷_}
+use mathlib.Core.List.{List, _∷_}
 use Prim.Native.Nat.{_+_, _-_, _≤_}
 use native.Mathlib.Omega.{arith}
 use borrow.Author.Tests.{not-true, not-false}
 use lib.ListN.{drop}
+use Rattle.geometry.specs.declared.Point.{Point}
 use Rattle.geometry.specs.Points.{firstPoints}
-use Rattle.geometry.specs.Order.{before}
 use Rattle.support.specs.declared.Place.the-variants.{At}
 use Rattle.support.specs.Place.{placeOf}
 use Rattle.support.proofs.PointRows.{firstPoints-from, firstPoints-end}
-use Rattle.support.proofs.Placing.{place-here, place-there, place-later, place-end}
+use Rattle.support.proofs.Placing.{behind-not-before, place-here, place-there, place-later, place-end}
 use Rattle.support.proofs.find_place.Statement.{statement}
 use Rattle.support.proofs.find_place.Tie as tie
 
@@ -22,18 +21,25 @@ Inv-loop list n p k₀ k = (k ≤ n) × (placeOf p (drop k (firstPoints n list))
 abbrev μ-loop : tie.MeasureT-loop
 μ-loop list n p k₀ k = n - k
 
--- what is left to look at, with the point that was read
-left : (c : tie.After-point-at Inv-loop μ-loop)
-    → let at = c .before .before in let s = at .before in
-    placeOf (s .args .p) (c .point-at .result ∷ drop (at .loop .k + 1) (firstPoints (s .args .n) (s .args .list .now))) (at .loop .k) ≡ placeOf (s .args .p) (firstPoints (s .args .n) (s .args .list .now)) 0
-left c =
-    let at = c .before .before in
-    let s = at .before in
-    rw (c .point-at .ensures, ← firstPoints-from (s .args .n) (at .loop .k) (s .args .list .now) (s .pre) (c .before .loop-test .taken)) (at .loop .inv .1)
+-- the point that was read, and what is left to look at with it
+module _ (c : tie.After-point-at Inv-loop μ-loop) where
+  abbrev at : tie.At-loop Inv-loop μ-loop
+  at = c .before .before
 
--- p is not in front of that point
-not-here : (c : tie.Else1 Inv-loop μ-loop) → before (c .before .before .before .before .before .args .p) (c .before .before .point-at .result) ≡ false
-not-here c = sym (c .before .is-before .ensures) ∙ c .if1 .left
+  abbrev s : tie.Start Inv-loop μ-loop
+  s = at .before
+
+  abbrev q : Point
+  q = c .point-at .result
+
+  abbrev behind : List Point
+  behind = drop (at .loop .k + 1) (firstPoints (s .args .n) (s .args .list .now))
+
+  left : placeOf (s .args .p) (q ∷ behind) (at .loop .k) ≡ placeOf (s .args .p) (firstPoints (s .args .n) (s .args .list .now)) 0
+  left =
+      ap (λ (R : List Point). placeOf (s .args .p) R (at .loop .k))
+      (ap {B = List Point} (λ x. x ∷ behind) (c .point-at .ensures) ∙ sym (firstPoints-from (s .args .n) (at .loop .k) (s .args .list .now) (s .pre) (c .before .loop-test .taken)))
+      ∙ at .loop .inv .1
 
 loop-holds : tie.Need-loop-holds Inv-loop μ-loop
 loop-holds c = (search needs, refl)
@@ -44,23 +50,20 @@ point-at-requires c κs = omega arith
 is-before-requires : tie.Need-is-before-requires Inv-loop μ-loop
 is-before-requires c κs = search needs
 
-returns : tie.Need-returns Inv-loop μ-loop
-returns c =
-    let at = c .before .before .before .before in
-    let s = at .before in
-    sym (place-here (s .args .p) (c .before .before .point-at .result) (drop (at .loop .k + 1) (firstPoints (s .args .n) (s .args .list .now))) (at .loop .k) (sym (c .before .is-before .ensures) ∙ c .if1 .taken))
-    ∙ left (c .before .before)
-
 is-before-requires-2 : tie.Need-is-before-requires-2 Inv-loop μ-loop
 is-before-requires-2 c κs = search needs
 
+returns : tie.Need-returns Inv-loop μ-loop
+returns c =
+    let r = c .before .before .before .before in
+    sym (place-here (s r .args .p) (q r) (behind r) (at r .loop .k) (sym (c .before .is-before2 .ensures) ∙ c .if2 .taken)) ∙ left r
+
 returns-2 : tie.Need-returns-2 Inv-loop μ-loop
 returns-2 c =
-    let u = c .before .before in
-    let at = u .before .before .before .before in
-    let s = at .before in
-    sym (place-there (s .args .p) (u .before .before .point-at .result) (drop (at .loop .k + 1) (firstPoints (s .args .n) (s .args .list .now))) (at .loop .k) (not-here u) (sym (c .before .is-before2 .ensures) ∙ not-true (c .before .is-before2 .result) (c .if2 .taken)))
-    ∙ left (u .before .before)
+    let first = c .before .before in
+    let r = first .before .before in
+    let not-behind = sym (first .before .is-before .ensures) ∙ not-true (first .before .is-before .result) (first .if1 .taken) in
+    sym (place-there (s r .args .p) (q r) (behind r) (at r .loop .k) (sym (c .before .is-before2 .ensures) ∙ c .if2 .left) not-behind) ∙ left r
 
 add-k : tie.Need-add-k Inv-loop μ-loop
 add-k c = omega arith
@@ -70,13 +73,9 @@ loop-less c = omega arith
 
 loop-again : tie.Need-loop-again Inv-loop μ-loop
 loop-again c =
-    let u = c .before .before in
-    let at = u .before .before .before .before in
-    let s = at .before in (
-      omega arith,
-      sym (place-later (s .args .p) (u .before .before .point-at .result) (drop (at .loop .k + 1) (firstPoints (s .args .n) (s .args .list .now))) (at .loop .k) (not-here u) (sym (c .before .is-before2 .ensures) ∙ not-false (c .before .is-before2 .result) (c .if2 .left)))
-          ∙ left (u .before .before),
-    )
+    let r = c .before .before in
+    let is-behind = sym (c .before .is-before .ensures) ∙ not-false (c .before .is-before .result) (c .if1 .left) in
+    (omega arith, sym (place-later (s r .args .p) (q r) (behind r) (at r .loop .k) (behind-not-before (s r .args .p) (q r) is-behind) is-behind) ∙ left r)
 
 returns-3 : tie.Need-returns-3 Inv-loop μ-loop
 returns-3 c =
@@ -94,8 +93,8 @@ find-place-spec =
     loop-holds
     point-at-requires
     is-before-requires
-    returns
     is-before-requires-2
+    returns
     returns-2
     add-k
     loop-less

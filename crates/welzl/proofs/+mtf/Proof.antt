@@ -1,10 +1,11 @@
 -- `welzl::mtf`, which calls itself, meets its contract. The measure is the room that is left in R.
 -- The loop's invariant is the promise itself, for the first i points, each of them tested once.
 use borrow.Author.Needs.{needs}
-use mathlib.Core.Path.{_≡_, sym, ap, _∙_}
+use mathlib.Core.Path.{_≡_, sym, ap, subst, _∙_}
 use mathlib.Core.Logic.{⊎-elim}
 use mathlib.Core.Bool.{true}
 use Prim.Native.Nat.{ℕ, _+_, _-_, _*_, _^_, _≤_, _<_}
+use native.Mathlib.Nat.{add-zero}
 use native.Mathlib.Omega.{arith}
 use lib.ListN.{length}
 use borrow.Fn.Kinds.{In}
@@ -12,9 +13,10 @@ use borrow.Fn.PlainCycle.{Measures, is, falls, and}
 use Rattle.geometry.specs.Plane.{inEmBox}
 use Rattle.geometry.specs.Points.{pointAt}
 use Rattle.geometry.proofs.PointLists.{pointAt-firstPoints}
-use Rattle.welzl.specs.Boundary.{roomIn, added}
+use Rattle.welzl.specs.declared.Boundary.{Boundary}
+use Rattle.welzl.specs.Boundary.{members, roomIn, added}
 use Rattle.welzl.specs.Relative.{isOutside}
-use Rattle.welzl.specs.Ran.{Ran}
+use Rattle.welzl.specs.Ran.{Boxed, Ran}
 use Rattle.welzl.proofs.RelativeLaws.{near-box}
 use Rattle.welzl.proofs.RunLaws.{room-falls}
 use Rattle.welzl.proofs.RanLaws.{ran-full, ran-none, ran-kept, ran-moved, ran-length, ran-tests, point-same, prefix-boxed, added-boxed}
@@ -110,15 +112,50 @@ module _ (t : ℕ) where
   abbrev Called : Type 0
   Called = lts.After-mtf (claims t) (mtf-at t) mtf.Post Inv-loop μ-loop
 
-  abbrev head : Called → At
-  head c = c .before .before .before .before .before .before .before .before
+  abbrev Added : Type 0
+  Added = lts.After-add-point (claims t) (mtf-at t) mtf.Post Inv-loop μ-loop
+
+  abbrev head : Added → At
+  head c = c .before .before .before .before .before .before
+
+  -- the set of the call
+  abbrev next : Added → Boundary
+  next c = added (head c .before .before .before .before .args .fixed) (pointAt (head c .loop .list) (head c .loop .i))
+
+  next-is : (c : Added) → c .add-point .result ≡ next c
+  next-is c = c .add-point .ensures ∙ ap (added (head c .before .before .before .before .args .fixed)) (c .before .before .before .point-at .ensures)
+
+  next-boxed : (c : Added) → Boxed (members (c .add-point .result))
+  next-boxed c =
+      let inside = c .before .before .before .before .before in
+      let s = inside .before .before .before .before .before in
+      rw (c .add-point .ensures, c .before .before .before .point-at .ensures ∙ same-point inside)
+      (added-boxed (s .args .fixed) (pointAt (s .args .list .now) (inside .before .loop .i)) (s .pre .1 .fixed-boxed) (boxed inside))
 
   again :
       (c : Called)
-      → Ran (added (head c .before .before .before .before .args .fixed) (pointAt (head c .loop .list) (head c .loop .i))) (head c .loop .i)
-      (head c .loop .list) (c .mtf .last .0) (c .mtf .result .disk) (c .mtf .result .tests)
-  again c =
-      rw (c .before .add-point .ensures, c .before .before .before .before .before .point-at .ensures) at (c .mtf .ensures)
+      → let a = c .before .before .before in Ran (next a) (head a .loop .i) (head a .loop .list) (c .mtf .last .0) (c .mtf .result .disk) (c .mtf .result .tests)
+  again c = rw (next-is (c .before .before .before)) at (c .mtf .ensures)
+
+  -- after both branches: the call's promise, made by a call or without one
+  abbrev Settled : Type 0
+  Settled = lts.Joined3 (claims t) (mtf-at t) mtf.Post Inv-loop μ-loop
+
+  ran-again :
+      (c : Settled)
+      → let a = c .before in (k : ℕ) × Ran (next a) (head a .loop .i) (head a .loop .list) (c .if3 .list) (c .if3 .disk) k × (c .if3 .inner ≡ head a .loop .inner + k)
+  ran-again c =
+      let a = c .before in
+      let l = head a .loop .list in
+      ⊎-elim
+      (λ w.
+      let m : Called = record { before = record { before = record { before = a; if3 = w .0 }; mtf-arg = w .1 }; mtf = w .2 } in
+      (w .2 .result .tests, rw (w .6, w .7) (again m), w .8))
+      (λ w.
+      let none = ran-none (next a) l (w .1 .result) (rw (next-is a) at (w .1 .ensures)) in
+      let at-first : head a .loop .i ≡ 0 = omega (arith, w .0 .left) in
+      (0, rw (w .2, w .3) (subst (λ (i : ℕ). Ran (next a) i l l (w .1 .result) 0) (sym at-first) none), w .4 ∙ sym (add-zero (head a .loop .inner))))
+      (c .if3 .came)
 
   boundary-disk-requires : lts.Need-boundary-disk-requires (claims t) (mtf-at t) mtf.Post Inv-loop μ-loop
   boundary-disk-requires c κs = c .pre .1 .fixed-boxed
@@ -150,18 +187,18 @@ module _ (t : ℕ) where
 
   mtf-requires : lts.Need-mtf-requires (claims t) (mtf-at t) mtf.Post Inv-loop μ-loop
   mtf-requires c κs =
-      let inside = c .before .before .before .before .before .before in
+      let a = c .before .before in
+      let inside = a .before .before .before .before .before in
       let at = inside .before in
       let s = at .before .before .before .before in
       let R = s .args .fixed in
       let l = s .args .list .now in
-      let i = at .loop .i in
-      let p-is = c .before .before .before .before .point-at .ensures ∙ same-point inside in (
-        rw (c .add-point .ensures, ← s .pre .0) (room-falls R (c .before .before .before .before .point-at .result) (more at)),
+      let i = at .loop .i in (
+        rw (a .add-point .ensures, ← s .pre .0) (room-falls R (a .before .before .before .point-at .result) (more at)),
         record {
           few = omega (arith, inside .loop-test .taken, s .pre .1 .few);
           fits = omega (arith, kept at, fits inside);
-          fixed-boxed = rw (c .add-point .ensures, p-is) (added-boxed R (pointAt l i) (s .pre .1 .fixed-boxed) (boxed inside));
+          fixed-boxed = next-boxed a;
           list-boxed = prefix-boxed R i l (at .loop .list) (at .loop .disk) (at .loop .inner + at .loop .i) (more at) (fits inside) (at .loop .inv .1) (s .args .n) (at .loop .inv .0) (s .pre .1 .list-boxed);
         },
       )
@@ -169,18 +206,28 @@ module _ (t : ℕ) where
   add-inner : lts.Need-add-inner (claims t) (mtf-at t) mtf.Post Inv-loop μ-loop
   add-inner c =
       let m = c .before .before .before in
-      let at = head m in
+      let a = m .before .before .before in
+      let at = head a in
       omega (
         arith,
         counted at,
-        ran-tests (added (at .before .before .before .before .args .fixed) (pointAt (at .loop .list) (at .loop .i))) (at .loop .i) (at .loop .list) (m .mtf .last .0)
-            (m .mtf .result .disk) (m .mtf .result .tests) (omega (arith, kept at)) (again m) (omega arith),
+        ran-tests (next a) (at .loop .i) (at .loop .list) (m .mtf .last .0) (m .mtf .result .disk) (m .mtf .result .tests) (omega (arith, kept at)) (again m) (omega arith),
       )
+
+  boundary-disk-requires-2 : lts.Need-boundary-disk-requires-2 (claims t) (mtf-at t) mtf.Post Inv-loop μ-loop
+  boundary-disk-requires-2 c κs = next-boxed (c .before)
 
   move-to-front-requires : lts.Need-move-to-front-requires (claims t) (mtf-at t) mtf.Post Inv-loop μ-loop
   move-to-front-requires c κs =
-      let m = c .before .before .before .before in
-      omega (arith, kept (head m), m .mtf .kept .0, fits (m .before .before .before .before .before .before .before))
+      let j = c .before in
+      let a = j .before in
+      let at = head a in
+      omega (
+        arith,
+        kept at,
+        ran-length (next a) (at .loop .i) (at .loop .list) (j .if3 .list) (j .if3 .disk) (ran-again j .0) (omega (arith, kept at)) (ran-again j .1),
+        fits (a .before .before .before .before .before),
+      )
 
   add-i : lts.Need-add-i (claims t) (mtf-at t) mtf.Post Inv-loop μ-loop
   add-i c = omega arith
@@ -198,10 +245,11 @@ module _ (t : ℕ) where
         omega arith,
         ⊎-elim
             (λ w.
-            let m : Called = record { before = record { before = record { before = record { before = c .before; if2 = w .0 }; mtf-arg = w .1 }; add-point = w .2 }; mtf = w .3 } in
-            rw (w .10, w .8 .ensures, w .11, w .12, moved-sum (at .loop .inner) (w .3 .result .tests) (at .loop .i))
+            let j : Settled = record { before = record { before = record { before = c .before; if2 = w .0 }; add-point = w .1 }; if3 = w .2 } in
+            let g = ran-again j in
+            rw (w .6, w .4 .ensures, w .7, w .8, g .2, moved-sum (at .loop .inner) (g .0) (at .loop .i))
             (ran-moved (s .args .fixed) (at .loop .i) (s .args .list .now) (at .loop .list) (at .loop .disk) (at .loop .inner + at .loop .i) (more at) (fits inside) (at .loop .inv .1)
-            (w .3 .last .0) (w .3 .result .disk) (w .3 .result .tests) (boxed inside) (tested ∙ w .0 .taken) (again m)))
+            (w .2 .list) (w .2 .disk) (g .0) (boxed inside) (tested ∙ w .0 .taken) (g .1)))
             (λ w.
             rw (w .1, w .2, w .3, kept-sum (at .loop .inner) (at .loop .i))
             (ran-kept (s .args .fixed) (at .loop .i) (s .args .list .now) (at .loop .list) (at .loop .disk) (at .loop .inner + at .loop .i) (more at) (fits inside) (at .loop .inv .1)
@@ -234,6 +282,7 @@ pub +mtf-spec : {M : Type 1} → statement M
     (add-point-requires t)
     (mtf-requires t)
     (add-inner t)
+    (boundary-disk-requires-2 t)
     (move-to-front-requires t)
     (add-i t)
     (loop-less t)
