@@ -26,7 +26,8 @@ std::vector<Entry>& entries() {
 namespace {
 
 struct Settings {
-    int rounds;
+    // A contestant runs at least so many rounds, and more, up to the most, until it has run for `seconds_a_round` in all.
+    int rounds, most_rounds;
     double seconds_a_round;
     double share_of_lists;
     // A rival that took longer than this for a list sits out the longer lists of the kind; the engine and the version by hand run all.
@@ -78,7 +79,8 @@ void check_exact(const Entry& entry, const Disk& disk, const Disk& smallest, con
 
 struct Row {
     size_t lists = 1;
-    double seconds = 1e99;
+    // The least time for a list, and the time of all rounds.
+    double seconds = 1e99, spent = 0;
     Faults faults;
 };
 
@@ -102,13 +104,16 @@ void compare(Kind kind, Size size, const Settings& settings, std::vector<Row>& r
         rows[k] = Row();
         rows[k].lists = sits_out ? 0 : affordable(*entries()[k].contestant, lists, settings);
     }
-    for (int round = 0; round < settings.rounds; round++) {
+    for (int round = 0; round < settings.most_rounds; round++) {
         for (size_t k = 0; k < rows.size(); k++) {
             Contestant& c = *entries()[k].contestant;
             bool is_slow = round > 0 && rows[k].seconds * double(rows[k].lists) > 2 * settings.seconds_a_round;
-            if (rows[k].lists == 0 || is_slow) continue;
+            bool is_done = round >= settings.rounds && rows[k].spent > settings.seconds_a_round;
+            if (rows[k].lists == 0 || is_slow || is_done) continue;
             c.prepare({lists.begin(), lists.begin() + long(rows[k].lists)});
-            rows[k].seconds = std::min(rows[k].seconds, seconds_of(c) / double(rows[k].lists));
+            double seconds = seconds_of(c);
+            rows[k].spent += seconds;
+            rows[k].seconds = std::min(rows[k].seconds, seconds / double(rows[k].lists));
         }
     }
     for (size_t k = 0; k < rows.size(); k++) {
@@ -139,7 +144,7 @@ int main(int argc, char** argv) {
         std::fprintf(stderr, "no outlines: bench OUTLINES [quick]\n");
         return 1;
     }
-    Settings settings = is_quick ? Settings{2, 0.05, 0.1, 0.005} : Settings{5, 0.25, 1.0, 0.1};
+    Settings settings = is_quick ? Settings{2, 5, 0.05, 0.1, 0.005} : Settings{5, 60, 0.25, 1.0, 0.1};
     std::sort(entries().begin(), entries().end(), [](const Entry& a, const Entry& b) { return a.rank < b.rank; });
     std::printf("kind;n;contestant;exact;lists;seconds;tests;misses;larger;wrong_radius;sticks_out;too_large\n");
     for (Kind kind : KINDS) {

@@ -2,26 +2,22 @@
 --
 --   boundary-on, boundary-off : they are those of the list without its first point, and that point where it is on the boundary
 --   boundary-in, in-boundary  : they are the points of the list that pass the test
---   boundary-length           : no more than the list has
 use mathlib.Core.Path.{_≡_, refl, sym, _∙_, ap, subst}
 use mathlib.Core.Logic.{_⊎_, inl, inr}
 use mathlib.Core.Bool.{Bool, true, false}
 use mathlib.Core.List.{List, [], _∷_, List·Memᴰ·head, List·Memᴰ·tail, List·Memᴰ·cases-cons, List·Memᴰ·not-nil}
-use Prim.Native.Nat.{suc, _≤_}
-use native.Mathlib.Omega.{arith}
 use lib.Dec.{T}
-use lib.ListN.{length}
 use Rattle.geometry.specs.declared.Point.{Point}
 use Rattle.geometry.specs.declared.Disk.{Disk}
 use Rattle.disks.specs.Smallest.{In}
 use Rattle.support.specs.Search.{onBoundaryTest, boundaryOf}
 
 module _ (d : Disk) where
-  pub boundary-on : (q : Point) (P : List Point) → onBoundaryTest d q ≡ true → boundaryOf d (q ∷ P) ≡ q ∷ boundaryOf d P
+  boundary-on : (q : Point) (P : List Point) → onBoundaryTest d q ≡ true → boundaryOf d (q ∷ P) ≡ q ∷ boundaryOf d P
   unfolding boundaryOf
   boundary-on q P e = rw e
 
-  pub boundary-off : (q : Point) (P : List Point) → onBoundaryTest d q ≡ false → boundaryOf d (q ∷ P) ≡ boundaryOf d P
+  boundary-off : (q : Point) (P : List Point) → onBoundaryTest d q ≡ false → boundaryOf d (q ∷ P) ≡ boundaryOf d P
   unfolding boundaryOf
   boundary-off q P e = rw e
 
@@ -50,12 +46,3 @@ module _ (d : Disk) where
       go true e f (inr j) = subst (In x) (sym (boundary-on q P e)) (List·Memᴰ·tail (f j))
       go false e f (inl k) = absurd (subst T (ap (onBoundaryTest d) k ∙ e) t)
       go false e f (inr j) = subst (In x) (sym (boundary-off q P e)) (f j)
-
-  pub boundary-length : (P : List Point) → length (boundaryOf d P) ≤ length P
-  unfolding boundaryOf
-  boundary-length [] = omega arith
-  boundary-length (q ∷ P) = go (onBoundaryTest d q) refl (boundary-length P)
-    where
-      go : (b : Bool) → onBoundaryTest d q ≡ b → length (boundaryOf d P) ≤ length P → length (boundaryOf d (q ∷ P)) ≤ suc (length P)
-      go true e h = omega (arith, ap length (boundary-on q P e))
-      go false e h = omega (arith, ap length (boundary-off q P e))

@@ -1,14 +1,14 @@
 -- The points that `collect` keeps: boundary points with a spanned x can be left out.
 --
---   Kept d B Q          == Q rises, its points are of B, and those of B that are not in Q are spanned by points of Q
+--   Kept d P Q          == Q rises, its points are points of P on d's boundary, and the others of these are spanned by points of Q
 --   across-spans, opposite-swap : what two opposite points span, whichever comes first
---   kept-none, kept-put, kept-spanned : at the start, with a point put in, and with a spanned one left out
+--   kept-none, kept-put, kept-spanned, kept-off : at the start, with a point put in, and with one left out
 --   spanned-more        : what is spanned stays so with a point put in
---   kept-finds          : the first set of Q that passes its test is the first support set, where B are the boundary points of a list
+--   kept-finds          : the first set of Q that passes its test is the first support set of P
 use mathlib.Core.Path.{_≡_, sym, _∙_, ap, ap₂, subst}
 use mathlib.Core.Logic.{_⊎_, inl, inr}
-use mathlib.Core.Bool.{true, _&&_}
-use mathlib.Core.List.{List, [], _∷_, List·Memᴰ·head, List·Memᴰ·tail, List·Memᴰ·cases-cons, List·Memᴰ·not-nil, List·Memᴰ·eq-of-singleton}
+use mathlib.Core.Bool.{true, false, _&&_}
+use mathlib.Core.List.{List, [], _∷_, _++_, List·Memᴰ·head, List·Memᴰ·cases-cons, List·Memᴰ·append-cases, Memᴰ·append-left, Memᴰ·append-right, List·Memᴰ·not-nil, List·Memᴰ·eq-of-singleton}
 use Prim.Native.Nat.{_≤_}
 use native.Mathlib.Omega.{arith}
 use lib.Dec.{T, eqb→eq}
@@ -26,8 +26,8 @@ use Rattle.geometry.specs.Order.{before, eqZ}
 use Rattle.disks.specs.Smallest.{In}
 use Rattle.disks.specs.Procedure.{diskOf}
 use Rattle.disks.specs.Support.{insert, sorted, candidates, firstSupport}
-use Rattle.disks.specs.FirstSupport.{Rising, Earlier, fewer, lexical, Lexical, here, there}
-use Rattle.disks.proofs.Minimal.{Same, none-of, also}
+use Rattle.disks.specs.FirstSupport.{Rising, Earlier, fewer, lexical, here, there}
+use Rattle.disks.proofs.Minimal.{none-of, also}
 use Rattle.disks.proofs.Base.{positive-not-zero}
 use Rattle.disks.proofs.StrongSmallest.{some-positive}
 use Rattle.disks.proofs.Rising.{ByCoordinates, by-x, by-y, by-coordinates, is-before, eqZ-eq, insert-in, insert-new, insert-old, insert-rises, sorted-rises, sorted-same}
@@ -35,13 +35,13 @@ use Rattle.disks.proofs.Choose.{Among}
 use Rattle.disks.proofs.First.{Passes, first-passes, Candidate, candidate, a-candidate, candidates-earlier, earlier-asym}
 use Rattle.support.specs.Search.{onBoundaryTest, boundaryOf, midway, opposite, fits, firstFit}
 use Rattle.support.specs.Span.{Spanned}
-use Rattle.support.proofs.Boundary.{boundary-in}
+use Rattle.support.proofs.Boundary.{boundary-in, in-boundary}
 use Rattle.support.proofs.Found.{search-finds, search-passes, e-some}
 
-pub record Kept (d : Disk) (B Q : List Point) : Type 0 where
+pub record Kept (d : Disk) (P Q : List Point) : Type 0 where
   pub rises : Rising Q
-  pub inside : (x : Point) → In x Q → In x B
-  pub covered : (x : Point) → In x B → In x Q ⊎ Spanned d Q (x .x)
+  pub inside : (x : Point) → In x Q → In x P × T (onBoundaryTest d x)
+  pub covered : (x : Point) → In x P → T (onBoundaryTest d x) → In x Q ⊎ Spanned d Q (x .x)
 
 -- ---- what two opposite points span
 
@@ -55,32 +55,45 @@ opposite-swap d a b = ap₂ (λ (x y : ℤ). eqZ (x *ℤ pos (d .e)) (pos 2 *ℤ
 -- ---- one point more
 
 pub kept-none : (d : Disk) → Kept d [] []
-kept-none d = record { rises = tt; inside = λ x i. i; covered = λ x i. inl i }
+kept-none d = record { rises = tt; inside = λ x i. absurd (List·Memᴰ·not-nil i); covered = λ x i t. inl i }
 
 pub spanned-more : (d : Disk) (Q : List Point) (p : Point) (z : ℤ) → Spanned d Q z → Spanned d (insert p Q) z
 spanned-more d Q p z s = record { a = s .a; b = s .b; a-in = insert-old p Q (s .a-in); b-in = insert-old p Q (s .b-in); across = s .across; left = s .left; right = s .right }
 
-pub kept-put : (d : Disk) (B Q : List Point) (p : Point) → Kept d B Q → Kept d (p ∷ B) (insert p Q)
-kept-put d B Q p k = record { rises = insert-rises p Q (k .rises); inside = λ x i. of x (insert-in p Q i); covered = λ x i. now-covered x (List·Memᴰ·cases-cons i) }
-  where
-    of : (x : Point) → (x ≡ p) ⊎ In x Q → In x (p ∷ B)
-    of x (inl e) = List·Memᴰ·head e
-    of x (inr i) = List·Memᴰ·tail (k .inside x i)
+module _ (d : Disk) (P Q : List Point) (p : Point) (k : Kept d P Q) where
+  earlier : {x : Point} → In x P × T (onBoundaryTest d x) → In x (P ++ (p ∷ [])) × T (onBoundaryTest d x)
+  earlier h = (Memᴰ·append-left (p ∷ []) (h .0), h .1)
 
-    still : (x : Point) → In x Q ⊎ Spanned d Q (x .x) → In x (insert p Q) ⊎ Spanned d (insert p Q) (x .x)
-    still x (inl i) = inl (insert-old p Q i)
-    still x (inr s) = inr (spanned-more d Q p (x .x) s)
+  pub kept-put : onBoundaryTest d p ≡ true → Kept d (P ++ (p ∷ [])) (insert p Q)
+  kept-put on = record { rises = insert-rises p Q (k .rises); inside = λ x i. of x (insert-in p Q i); covered = λ x i t. now-covered x t (List·Memᴰ·append-cases P i) }
+    where
+      of : (x : Point) → (x ≡ p) ⊎ In x Q → In x (P ++ (p ∷ [])) × T (onBoundaryTest d x)
+      of x (inl e) = (Memᴰ·append-right P (List·Memᴰ·head e), subst T (sym (ap (onBoundaryTest d) e ∙ on)) tt)
+      of x (inr i) = earlier (k .inside x i)
 
-    now-covered : (x : Point) → (x ≡ p) ⊎ In x B → In x (insert p Q) ⊎ Spanned d (insert p Q) (x .x)
-    now-covered x (inl e) = inl (subst (λ (y : Point). In y (insert p Q)) (sym e) (insert-new p Q))
-    now-covered x (inr i) = still x (k .covered x i)
+      still : (x : Point) → In x Q ⊎ Spanned d Q (x .x) → In x (insert p Q) ⊎ Spanned d (insert p Q) (x .x)
+      still x (inl i) = inl (insert-old p Q i)
+      still x (inr s) = inr (spanned-more d Q p (x .x) s)
 
-pub kept-spanned : (d : Disk) (B Q : List Point) (p : Point) → Spanned d Q (p .x) → Kept d B Q → Kept d (p ∷ B) Q
-kept-spanned d B Q p s k = record { rises = k .rises; inside = λ x i. List·Memᴰ·tail (k .inside x i); covered = λ x i. now-covered x (List·Memᴰ·cases-cons i) }
-  where
-    now-covered : (x : Point) → (x ≡ p) ⊎ In x B → In x Q ⊎ Spanned d Q (x .x)
-    now-covered x (inl e) = inr (subst (λ (y : Point). Spanned d Q (y .x)) (sym e) s)
-    now-covered x (inr i) = k .covered x i
+      now-covered : (x : Point) → T (onBoundaryTest d x) → In x P ⊎ In x (p ∷ []) → In x (insert p Q) ⊎ Spanned d (insert p Q) (x .x)
+      now-covered x t (inl i) = still x (k .covered x i t)
+      now-covered x t (inr i) = inl (subst (λ (y : Point). In y (insert p Q)) (sym (List·Memᴰ·eq-of-singleton i)) (insert-new p Q))
+
+  -- a point that is left out is not on the boundary, or spanned
+  left-out : (T (onBoundaryTest d p) → Spanned d Q (p .x)) → Kept d (P ++ (p ∷ [])) Q
+  left-out f = record { rises = k .rises; inside = λ x i. earlier (k .inside x i); covered = λ x i t. now-covered x t (List·Memᴰ·append-cases P i) }
+    where
+      now-covered : (x : Point) → T (onBoundaryTest d x) → In x P ⊎ In x (p ∷ []) → In x Q ⊎ Spanned d Q (x .x)
+      now-covered x t (inl i) = k .covered x i t
+      now-covered x t (inr i) =
+          let e : x ≡ p = List·Memᴰ·eq-of-singleton i in
+          inr (subst (λ (y : Point). Spanned d Q (y .x)) (sym e) (f (subst (λ (y : Point). T (onBoundaryTest d y)) e t)))
+
+  pub kept-spanned : Spanned d Q (p .x) → Kept d (P ++ (p ∷ [])) Q
+  kept-spanned s = left-out (λ t. s)
+
+  pub kept-off : onBoundaryTest d p ≡ false → Kept d (P ++ (p ∷ [])) Q
+  kept-off off = left-out (λ t. absurd (subst T off t))
 
 -- ---- opposite points
 
@@ -116,7 +129,7 @@ module _ (d : Disk) (proper : 1 ≤ d .e) where
 
   -- ---- a set that comes before a pair of opposite points has no point strictly between them
 
-  module _ (B Q : List Point) (on : (x : Point) → In x B → T (onBoundaryTest d x)) (k : Kept d B Q) where
+  module _ (P Q : List Point) (k : Kept d P Q) where
     module _ (z : ℤ) (u : Spanned d Q z) where
       apart : u .a .x <ℤ u .b .x
       apart = <-trans (u .left) (u .right)
@@ -125,7 +138,7 @@ module _ (d : Disk) (proper : 1 ≤ d .e) where
       no-single e = <-≤-clash apart (≤-of-eq (same-x (u .b .x) (u .a .x) E (d .x) (some-positive proper) (at (u .b) (u .b-in)) (at (u .a) (u .a-in))))
         where
           at : (x : Point) → In x Q → x .x *ℤ E ≡ d .x
-          at x i = centre-x x (on x (k .inside x i)) e
+          at x i = centre-x x (k .inside x i .1) e
 
       -- of an opposite pair s t with s not behind a: neither has the x that is spanned
       off-first : (s t : Point) → s .x ≤ℤ u .a .x → s .x ≡ z → ⊥
@@ -164,7 +177,7 @@ module _ (d : Disk) (proper : 1 ≤ d .e) where
 
     -- ---- the first set
 
-    module _ (R : List Point) (rises : Rising R) (same : Same B R) (found : Passes (fits d) (candidates R) (firstFit d R)) where
+    module _ (R : List Point) (rises : Rising R) (to : (x : Point) → In x P → T (onBoundaryTest d x) → In x R) (from : (x : Point) → In x R → In x P × T (onBoundaryTest d x)) (found : Passes (fits d) (candidates R) (firstFit d R)) where
       abbrev S : List Point
       S = firstFit d R
 
@@ -176,7 +189,7 @@ module _ (d : Disk) (proper : 1 ≤ d .e) where
       pair x u = found .least (u .a ∷ u .b ∷ []) (a-candidate R (u .a ∷ u .b ∷ []) rises c) (u .across)
         where
           in-R : (y : Point) → In y Q → In y R
-          in-R y i = same .to y (k .inside y i)
+          in-R y i = let h = k .inside y i in to y (h .0) (h .1)
 
           c : Candidate R (u .a ∷ u .b ∷ [])
           c = record {
@@ -187,7 +200,7 @@ module _ (d : Disk) (proper : 1 ≤ d .e) where
           }
 
       all-kept : (x : Point) → In x S → In x Q
-      all-kept x i = go (k .covered x (same .from x (of-R .members x i)))
+      all-kept x i = let h = from x (of-R .members x i) in go (k .covered x (h .0) (h .1))
         where
           go : In x Q ⊎ Spanned d Q (x .x) → In x Q
           go (inl j) = j
@@ -207,16 +220,17 @@ module _ (d : Disk) (proper : 1 ≤ d .e) where
           c = candidate Q (firstFit d Q) (k .rises) (of-Q .among)
 
           also-of-R : Candidate R (firstFit d Q)
-          also-of-R = record { rises = c .rises; members = λ x i. same .to x (k .inside x (c .members x i)); some = c .some; most = c .most }
+          also-of-R = record { rises = c .rises; members = λ x i. let h = k .inside x (c .members x i) in to x (h .0) (h .1); some = c .some; most = c .most }
 
           go : (S ≡ firstFit d Q) ⊎ Earlier (firstFit d Q) S → (firstFit d Q ≡ S) ⊎ Earlier S (firstFit d Q) → firstFit d Q ≡ S
           go (inl e) h = sym e
           go (inr h) (inl e) = e
           go (inr h) (inr l) = absurd (earlier-asym h l)
 
--- ---- the boundary points of a list
+-- ---- of a whole list
 
-pub kept-finds : (P : List Point) → 1 ≤ length P → (d : Disk) → d ≡ diskOf P → (Q : List Point) → Kept d (boundaryOf d P) Q → firstFit d Q ≡ firstSupport P
+pub kept-finds : (P : List Point) → 1 ≤ length P → (d : Disk) → d ≡ diskOf P → (Q : List Point) → Kept d P Q → firstFit d Q ≡ firstSupport P
 kept-finds P some d is Q k =
     let B = boundaryOf d P in
-    kept-first d (e-some P some d is) B Q (λ x i. boundary-in d P x i .1) k (sorted B) (sorted-rises B) (sorted-same B) (search-passes P some d is) ∙ search-finds P some d is
+    kept-first d (e-some P some d is) P Q k (sorted B) (sorted-rises B) (λ x i t. sorted-same B .to x (in-boundary d P x i t)) (λ x i. boundary-in d P x (sorted-same B .from x i)) (search-passes P some d is)
+    ∙ search-finds P some d is

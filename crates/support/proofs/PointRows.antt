@@ -2,30 +2,25 @@
 --
 --   drop-points           : the points from point i on are those of the numbers from number 2i on
 --   points-from           : they are point i and the points behind it
---   points-none           : there are none from half the length on; points-length: the points are at most half as many
 --   points-some           : a list of two numbers or more has a point
 --   pointAt-in            : point i is one of the points
 --   firstPoints-from, firstPoints-end : so of the first n points, up to the last
 --   firstPoints-take      : the first k of the first n points
+--   firstPoints-whole     : with half as many as there are numbers, they are all
 --   drop-next             : lists with the same numbers from 2i on have the same from 2(i + 1) on
 --   pointAt-drop          : lists with the same numbers from 2i on have the same point i
 --   firstPoints-put       : with p written as point i, the first i + 1 points are the first i and p
 --   drop-put, length-put  : what is behind, and the length, stay
-use mathlib.Core.Path.{_≡_, refl, sym, ap, subst, _∙_}
-use mathlib.Core.Logic.{_⊎_, inl, inr}
-use mathlib.Core.Bool.{true}
-use mathlib.Core.List.{List, [], _∷_, _++_, List·Memᴰ, List·Memᴰ·head, List·Memᴰ·tail, List·Memᴰ·cases-cons, List·Memᴰ·not-nil}
+use mathlib.Core.Path.{_≡_, refl, sym, ap, _∙_}
+use mathlib.Core.List.{List, [], _∷_, _++_, List·Memᴰ, List·Memᴰ·head, List·Memᴰ·tail, List·Memᴰ·not-nil}
 use Prim.Native.Nat.{ℕ, zero, suc, _+_, _*_, _≤_, _<_}
 use native.Mathlib.Nat.{add-zero}
 use native.Mathlib.Numerals.{add-one, add-two}
 use native.Mathlib.Omega.{arith}
-use lib.Dec.{T}
 use lib.IntN.{ℤ, pos}
-use lib.ListN.{length, getD, set, take, drop, length-set, length-take, length-drop, drop-of-length-le}
+use lib.ListN.{length, getD, set, take, drop, length-set, length-take, drop-of-length-le}
 use lib.Seq.{drop-cons, drop-drop, getD-take, getD-drop, take-set-le, drop-set-lt, getD-set-same, getD-set-other}
-use Rattle.integers.specs.Between.{first, rest}
 use Rattle.geometry.specs.declared.Point.{Point}
-use Rattle.geometry.specs.Plane.{inEmBox, allInEmBox}
 use Rattle.geometry.specs.Points.{points, pointAt, firstPoints}
 use Rattle.geometry.proofs.PointLists.{firstPoints-next, length-firstPoints}
 use Rattle.support.specs.Place.{putAt}
@@ -50,22 +45,6 @@ unfolding points
 points-from i l h =
     let next : 2 * (i + 1) ≡ 2 * i + 2 = omega arith in
     drop-points i l ∙ ap points (two-from l (2 * i) h) ∙ ap {B = List Point} (λ Q. pointAt l i ∷ Q) (sym (drop-points (i + 1) l ∙ ap (λ (k : ℕ). points (drop k l)) next))
-
--- there are half as many points as numbers
-pub points-none : (i : ℕ) (l : List ℤ) → length l < 2 * i + 2 → drop i (points l) ≡ []
-unfolding points
-points-none i l h = drop-points i l ∙ short (drop (2 * i) l) (simp length-drop (omega arith))
-  where
-    short : (m : List ℤ) → length m < 2 → points m ≡ []
-    short [] h = refl
-    short (x ∷ []) h = refl
-    short (x ∷ y ∷ m) h = absurd (omega arith)
-
-pub points-length : (l : List ℤ) → 2 * length (points l) ≤ length l
-unfolding points
-points-length [] = omega arith
-points-length (x ∷ []) = omega arith
-points-length (x ∷ y ∷ l) = omega (arith, points-length l)
 
 pub points-some : (l : List ℤ) → 2 ≤ length l → 1 ≤ length (points l)
 unfolding points
@@ -100,6 +79,15 @@ firstPoints-take (suc k) zero l h fits = absurd (omega arith)
 firstPoints-take (suc k) (suc n) [] h fits = absurd (omega arith)
 firstPoints-take (suc k) (suc n) (x ∷ []) h fits = absurd (omega arith)
 firstPoints-take (suc k) (suc n) (x ∷ y ∷ l) h fits = rw (two-suc k, two-suc n) (ap {B = List Point} (λ Q. record { x = x; y = y } ∷ Q) (firstPoints-take k n l (omega arith) (omega arith)))
+
+pub firstPoints-whole : (n : ℕ) (l : List ℤ) → 2 * n ≤ length l → length l < 2 * n + 2 → firstPoints n l ≡ points l
+unfolding points
+firstPoints-whole zero [] h k = refl
+firstPoints-whole zero (x ∷ []) h k = refl
+firstPoints-whole zero (x ∷ y ∷ l) h k = absurd (omega arith)
+firstPoints-whole (suc n) [] h k = absurd (omega arith)
+firstPoints-whole (suc n) (x ∷ []) h k = absurd (omega arith)
+firstPoints-whole (suc n) (x ∷ y ∷ l) h k = rw (two-suc n) (ap {B = List Point} (λ Q. record { x = x; y = y } ∷ Q) (firstPoints-whole n l (omega arith) (omega arith)))
 
 pub drop-next : (i : ℕ) (l m : List ℤ) → drop (2 * i) l ≡ drop (2 * i) m → drop (2 * (i + 1)) l ≡ drop (2 * (i + 1)) m
 drop-next i l m e =

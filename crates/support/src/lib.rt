@@ -153,15 +153,12 @@ fn is_spanned(span: Span, x: i16) -> bool
     span.lo < x && x < span.hi
 }
 
-// The span of p and its opposite, where that is among the first n points of the list; else, and for a few points, the span given.
+// The span of p and its opposite, where that is among the first n points of the list; else the span given.
 fn span_with(list: &[i16], n: usize, disk: Disk, p: Point, span: Span) -> Span
     requires { ⌜ (2 * n ≤ length (now list)) × SmallDisk disk ⌝ }
     requires { ⌜ In p (firstPoints n (now list)) × Spans disk (firstPoints n (now list)) span ⌝ }
     ensures { λ r. ⌜ Spans disk (firstPoints n (now (list .entry))) r ⌝ }
 {
-    if n <= 6 {
-        return span;
-    }
     for k in 0..n {
         let q = geometry::point_at(list, k);
         if is_opposite(disk, p, q) {
@@ -175,7 +172,7 @@ fn span_with(list: &[i16], n: usize, disk: Disk, p: Point, span: Span) -> Span
 }
 
 // Writes points of the list on the disk's boundary to `out`, rising and each once, and returns how many there are: those among which the
-// search finds the first support set. They are taken from the last on.
+// search finds the first support set. The procedure leaves the points that fix the disk in front, so that two that do span much early.
 fn collect(list: &[i16], disk: Disk, out: &mut [i16]) -> usize
     requires { ⌜ Asked (now list) disk × (length (now list) ≤ length (now out)) ⌝ }
     ensures room { λ r. ⌜ 2 * r ≤ length (now (out .exit)) ⌝ }
@@ -183,10 +180,11 @@ fn collect(list: &[i16], disk: Disk, out: &mut [i16]) -> usize
 {
     let mut m: usize = 0;
     let mut span = Span { lo: 0, hi: 0 };
-    let mut i = list.len() / 2;
-    while 0 < i {
-        i -= 1;
+    let n = list.len() / 2;
+    let mut i: usize = 0;
+    while i < n {
         let p = geometry::point_at(list, i);
+        i += 1;
         if !is_spanned(span, p.x) && on_boundary(disk, p) {
             let size = insert_point(out, m, p);
             if m < size {

@@ -3,12 +3,11 @@ use mathlib.Core.Path.{_≡_, sym, ap, ap₂, _∙_, subst}
 use Prim.Native.Nat.{ℕ, _/_, _^_, _<_}
 use native.Mathlib.Nat.{lt-of-le-of-lt}
 use borrow.Author.Needs.{needs}
-use lib.IntN.{ℤ, pos, natAbs}
+use lib.IntN.{ℤ, pos}
 use lib.Signed.{quotZ}
 use mir.Syntax.{w64}
 use mir.Val.{SFits, toZ, ofZ}
 use mir.Facts.{toZ-ofZ}
-use Rattle.integers.specs.Gcd.{gcd}
 use Rattle.integers.specs.LowestTerms.{common, over, common-pos, common-le}
 use Rattle.integers.proofs.lowest_terms.Statement.{statement}
 use Rattle.integers.proofs.lowest_terms.Tie as tie

@@ -1,15 +1,14 @@
--- `support::collect` meets its contract. The invariant: the first m points of `out` are kept of the boundary points of the list from point i on.
+-- `support::collect` meets its contract. The invariant: of the first i points of the list, the first m of `out` are kept.
 use mathlib.Core.Path.{_≡_, refl, sym, ap, subst, _∙_}
-use mathlib.Core.Logic.{_⊎_, inl, inr}
-use mathlib.Core.Bool.{Bool, true, false, _&&_, true≢false}
-use mathlib.Core.List.{List, [], _∷_}
-use Prim.Native.Nat.{ℕ, suc, _+_, _-_, _*_, _/_, _≤_}
+use mathlib.Core.Logic.{inl, inr}
+use mathlib.Core.Bool.{true, _&&_}
+use mathlib.Core.List.{List, [], _∷_, _++_}
+use Prim.Native.Nat.{_+_, _-_, _/_, _≤_}
 use native.Mathlib.Omega.{arith}
 use borrow.Author.Needs.{needs}
 use borrow.Author.Tests.{not-false}
 use lib.Dec.{T}
-use lib.IntN.{ℤ}
-use lib.ListN.{length, drop}
+use lib.ListN.{length}
 use lib.Signed.{ltZ}
 use mir.Syntax.{w16}
 use mir.Val.{toZ, ofZ}
@@ -20,32 +19,30 @@ use Rattle.geometry.specs.declared.Point.{Point}
 use Rattle.geometry.specs.Points.{points, pointAt, firstPoints}
 use Rattle.geometry.specs.Plane.{inEmBox}
 use Rattle.geometry.proofs.EmBox.{box-members}
-use Rattle.geometry.proofs.PointLists.{length-firstPoints}
+use Rattle.geometry.proofs.PointLists.{length-firstPoints, firstPoints-next}
 use Rattle.disks.specs.Smallest.{In}
 use Rattle.disks.specs.Limits.{Limits}
 use Rattle.disks.specs.Support.{insert}
 use Rattle.disks.proofs.Rising.{insert-new, insert-length}
-use Rattle.support.specs.Search.{onBoundaryTest, boundaryOf}
-use Rattle.support.specs.Span.{Spanned, Spans, strictlyWithin}
+use Rattle.support.specs.Span.{Spanned, Spans}
 use Rattle.support.proofs.Numbers.{limits-small}
-use Rattle.support.proofs.PointRows.{points-from, points-none, points-some, pointAt-in}
-use Rattle.support.proofs.Boundary.{boundary-on, boundary-off}
+use Rattle.support.proofs.PointRows.{points-some, pointAt-in, firstPoints-whole}
 use Rattle.support.proofs.Found.{within-limits}
-use Rattle.support.proofs.Kept.{Kept, kept-none, kept-put, kept-spanned, spanned-more, kept-finds}
+use Rattle.support.proofs.Kept.{Kept, kept-none, kept-put, kept-spanned, kept-off, spanned-more, kept-finds}
 use Rattle.support.proofs.collect.Statement.{statement}
 use Rattle.support.proofs.collect.Tie as tie
 
 abbrev Inv-loop : tie.InvT-loop
-Inv-loop list disk out₀ m₀ span₀ i₀ out m span i =
-    (2 * (m + i) ≤ length list) × (length out ≡ length out₀) × Kept disk (boundaryOf disk (drop i (points list))) (firstPoints m out) × Spans disk (firstPoints m out) span
+Inv-loop list disk out₀ m₀ span₀ n i₀ out m span i =
+    (i ≤ length list / 2) × (m ≤ i) × (length out ≡ length out₀) × Kept disk (firstPoints i list) (firstPoints m out) × Spans disk (firstPoints m out) span
 
 abbrev μ-loop : tie.MeasureT-loop
-μ-loop list disk out₀ m₀ span₀ i₀ out m span i = i
+μ-loop list disk out₀ m₀ span₀ n i₀ out m span i = length list / 2 - i
 
 in-limits : (s : tie.Start Inv-loop μ-loop) → Limits (s .args .disk)
 in-limits s = within-limits (points (s .args .list .now)) (points-some (s .args .list .now) (s .pre .0 .some)) (s .args .disk) (s .pre .0 .smallest) (s .pre .0 .boxed)
 
--- the points that are left, with the one that was read
+-- the point that was read, behind those that were looked at
 module _ (c : tie.After-point-at Inv-loop μ-loop) where
   abbrev at : tie.At-loop Inv-loop μ-loop
   at = c .before .before
@@ -57,155 +54,130 @@ module _ (c : tie.After-point-at Inv-loop μ-loop) where
   p = c .point-at .result
 
   abbrev P : List Point
-  P = drop (at .loop .i) (points (s .args .list .now))
+  P = firstPoints (at .loop .i) (s .args .list .now)
 
   abbrev Q : List Point
   Q = firstPoints (at .loop .m) (at .loop .out)
 
-  abbrev kept-before : Kept (s .args .disk) (boundaryOf (s .args .disk) P) Q
-  kept-before = at .loop .inv .2
+  read : firstPoints (at .loop .i + 1) (s .args .list .now) ≡ P ++ (p ∷ [])
+  read = firstPoints-next (at .loop .i) (s .args .list .now) (omega (arith, c .before .loop-test .taken)) ∙ ap (λ (q : Point). P ++ (q ∷ [])) (sym (c .point-at .ensures))
 
-  read : drop (at .loop .i - 1) (points (s .args .list .now)) ≡ p ∷ P
-  read =
-      let l = s .args .list .now in
-      let next : at .loop .i - 1 + 1 ≡ at .loop .i = omega arith in
-      points-from (at .loop .i - 1) l (omega arith)
-      ∙ ap (λ (i : ℕ). pointAt l (at .loop .i - 1) ∷ drop i (points l)) next
-      ∙ ap {B = List Point} (λ p. p ∷ P) (sym (c .point-at .ensures))
-
-  -- the boundary points, by whether the point is one of them
-  after : (R : List Point) → (onBoundaryTest (s .args .disk) p ≡ true → Kept (s .args .disk) (p ∷ boundaryOf (s .args .disk) P) R) → (onBoundaryTest (s .args .disk) p ≡ false → Kept (s .args .disk) (boundaryOf (s .args .disk) P) R)
-      → Kept (s .args .disk) (boundaryOf (s .args .disk) (drop (at .loop .i - 1) (points (s .args .list .now)))) R
-  after R on off = subst (λ (L : List Point). Kept (s .args .disk) (boundaryOf (s .args .disk) L) R) (sym read) (go (onBoundaryTest (s .args .disk) p) refl)
-    where
-      go : (b : Bool) → onBoundaryTest (s .args .disk) p ≡ b → Kept (s .args .disk) (boundaryOf (s .args .disk) (p ∷ P)) R
-      go true e = subst (λ (B : List Point). Kept (s .args .disk) B R) (sym (boundary-on (s .args .disk) p P e)) (on e)
-      go false e = subst (λ (B : List Point). Kept (s .args .disk) B R) (sym (boundary-off (s .args .disk) p P e)) (off e)
+  now-kept : (R : List Point) → Kept (s .args .disk) (P ++ (p ∷ [])) R → Kept (s .args .disk) (firstPoints (at .loop .i + 1) (s .args .list .now)) R
+  now-kept R k = subst (λ (L : List Point). Kept (s .args .disk) L R) (sym read) k
 
 loop-holds : tie.Need-loop-holds Inv-loop μ-loop
-unfolding boundaryOf points
-loop-holds c =
-    let none : drop (length (c .args .list .now) / 2) (points (c .args .list .now)) ≡ [] = points-none (length (c .args .list .now) / 2) (c .args .list .now) (omega arith) in
-    (omega arith, refl, rw none (kept-none (c .args .disk)), λ z h k. <-≤-clash h (≤-of-< k))
-
-sub-i : tie.Need-sub-i Inv-loop μ-loop
-sub-i c = omega arith
+unfolding points
+loop-holds c = (omega arith, omega arith, refl, kept-none (c .args .disk), λ z h k. <-≤-clash h (≤-of-< k))
 
 point-at-requires : tie.Need-point-at-requires Inv-loop μ-loop
-point-at-requires c κs = omega arith
+point-at-requires c κs = omega (arith, c .loop-test .taken)
+
+add-i : tie.Need-add-i Inv-loop μ-loop
+add-i c = omega (arith, c .before .loop-test .taken, s c .pre .0 .most)
 
 is-spanned-requires : tie.Need-is-spanned-requires Inv-loop μ-loop
 is-spanned-requires c κs = search needs
 
 on-boundary-requires : tie.Need-on-boundary-requires Inv-loop μ-loop
 on-boundary-requires c κs =
-    let q = c .before .before .before in
-    let l = s q .args .list .now in
-    let i = at q .loop .i - 1 in
-    (in-limits (s q), subst (λ (p : Point). T (inEmBox p)) (sym (q .point-at .ensures)) (box-members (points l) (s q .pre .0 .boxed) (pointAt l i) (pointAt-in i l (omega arith))))
+    let r = c .before .before .before in
+    let l = s r .args .list .now in
+    let i = at r .loop .i in
+    (in-limits (s r), subst (λ (p : Point). T (inEmBox p)) (sym (r .point-at .ensures)) (box-members (points l) (s r .pre .0 .boxed) (pointAt l i) (pointAt-in i l (omega (arith, r .before .loop-test .taken)))))
 
 insert-point-requires : tie.Need-insert-point-requires Inv-loop μ-loop
 insert-point-requires c κs =
-    let q = c .before .before .before .before .before .before in
-    omega (arith, at q .loop .inv .0, at q .loop .inv .1, s q .pre .1, q .before .loop-test .taken)
+    let r = c .before .before .before .before .before .before in
+    omega (arith, at r .loop .inv .1, at r .loop .inv .2, s r .pre .1, r .before .loop-test .taken)
 
 -- the point was put in
 module _ (c : tie.After-insert-point Inv-loop μ-loop) where
-  abbrev q : tie.After-point-at Inv-loop μ-loop
-  q = c .before .before .before .before .before .before .before
+  abbrev r : tie.After-point-at Inv-loop μ-loop
+  r = c .before .before .before .before .before .before .before
 
-  with-it : firstPoints (c .insert-point .result) (c .insert-point .last .0) ≡ insert (p q) (Q q)
+  abbrev R : List Point
+  R = firstPoints (c .insert-point .result) (c .insert-point .last .0)
+
+  with-it : R ≡ insert (p r) (Q r)
   with-it = c .insert-point .ensures .1
 
-  one-more : c .insert-point .result ≤ at q .loop .m + 1
+  one-more : c .insert-point .result ≤ at r .loop .m + 1
   one-more =
-      let size : length (Q q) ≡ at q .loop .m = length-firstPoints (at q .loop .m) (at q .loop .out) (omega (arith, at q .loop .inv .0, at q .loop .inv .1, s q .pre .1)) in
-      omega (arith, c .insert-point .ensures .0, insert-length (p q) (Q q), size)
+      let size : length (Q r) ≡ at r .loop .m = length-firstPoints (at r .loop .m) (at r .loop .out) (omega (arith, at r .loop .inv .0, at r .loop .inv .1, at r .loop .inv .2, s r .pre .1)) in
+      omega (arith, c .insert-point .ensures .0, insert-length (p r) (Q r), size)
 
-loop-less : tie.Need-loop-less Inv-loop μ-loop
-loop-less c = omega arith
+  put-in : Kept (s r .args .disk) (firstPoints (at r .loop .i + 1) (s r .args .list .now)) R
+  put-in =
+      let test = c .before .before in
+      now-kept r R (subst (Kept (s r .args .disk) (P r ++ (p r ∷ []))) (sym with-it) (kept-put (s r .args .disk) (P r) (Q r) (p r) (at r .loop .inv .3) (sym (test .before .on-boundary .ensures) ∙ test .if2 .taken)))
 
--- what is kept then
-put-in :
-    (u : tie.After-insert-point Inv-loop μ-loop) → let e = q u in let d = s e .args .disk in
-    Kept d (boundaryOf d (drop (at e .loop .i - 1) (points (s e .args .list .now)))) (firstPoints (u .insert-point .result) (u .insert-point .last .0))
-put-in u =
-    let test = u .before .before in
-    let e = q u in
-    let d = s e .args .disk in
-    let R = firstPoints (u .insert-point .result) (u .insert-point .last .0) in
-    let on : onBoundaryTest d (p e) ≡ true = sym (test .before .on-boundary .ensures) ∙ test .if2 .taken in
-    after e R (λ f. subst (Kept d (p e ∷ boundaryOf d (P e))) (sym (with-it u)) (kept-put d (boundaryOf d (P e)) (Q e) (p e) (kept-before e))) (λ f. absurd (true≢false (sym on ∙ f)))
-
--- what was spanned stays so
-still-spanned :
-    (u : tie.After-insert-point Inv-loop μ-loop) → Spans (s (q u) .args .disk) (firstPoints (u .insert-point .result) (u .insert-point .last .0)) (at (q u) .loop .span)
-still-spanned u z h k =
-    let e = q u in
-    subst (λ (R : List Point). Spanned (s e .args .disk) R z) (sym (with-it u)) (spanned-more (s e .args .disk) (Q e) (p e) z (at e .loop .inv .3 z h k))
+  -- what was spanned stays so
+  still-spanned : Spans (s r .args .disk) R (at r .loop .span)
+  still-spanned z h k = subst (λ (L : List Point). Spanned (s r .args .disk) L z) (sym with-it) (spanned-more (s r .args .disk) (Q r) (p r) z (at r .loop .inv .4 z h k))
 
 span-with-requires : tie.Need-span-with-requires Inv-loop μ-loop
 span-with-requires c κs =
     let u = c .before .before .before in
-    let e = q u in (
-      (omega (arith, one-more u, u .insert-point .kept .0, at e .loop .inv .0, at e .loop .inv .1, s e .pre .1, e .before .loop-test .taken), limits-small (s e .args .disk) (in-limits (s e))),
+    let e = r u in (
+      (omega (arith, one-more u, u .insert-point .kept .0, at e .loop .inv .1, at e .loop .inv .2, s e .pre .1, e .before .loop-test .taken), limits-small (s e .args .disk) (in-limits (s e))),
       (subst (In (p e)) (sym (with-it u)) (insert-new (p e) (Q e)), still-spanned u),
     )
+
+loop-less : tie.Need-loop-less Inv-loop μ-loop
+loop-less c = omega (arith, r (c .before .before .before .before) .before .loop-test .taken)
 
 loop-again : tie.Need-loop-again Inv-loop μ-loop
 loop-again c =
     let u = c .before .before .before .before in
-    let e = q u in
-    (omega (arith, one-more u, at e .loop .inv .0, e .before .loop-test .taken), u .insert-point .kept .0 ∙ at e .loop .inv .1, put-in u, c .span-with .ensures)
+    let e = r u in
+    (omega (arith, e .before .loop-test .taken), omega (arith, one-more u, at e .loop .inv .1), u .insert-point .kept .0 ∙ at e .loop .inv .2, put-in u, c .span-with .ensures)
 
 loop-less-2 : tie.Need-loop-less-2 Inv-loop μ-loop
-loop-less-2 c = omega arith
+loop-less-2 c = omega (arith, r (c .before .before) .before .loop-test .taken)
 
 loop-again-2 : tie.Need-loop-again-2 Inv-loop μ-loop
 loop-again-2 c =
     let u = c .before .before in
-    let e = q u in
-    (omega (arith, one-more u, at e .loop .inv .0, e .before .loop-test .taken), u .insert-point .kept .0 ∙ at e .loop .inv .1, put-in u, still-spanned u)
+    let e = r u in
+    (omega (arith, e .before .loop-test .taken), omega (arith, one-more u, at e .loop .inv .1), u .insert-point .kept .0 ∙ at e .loop .inv .2, put-in u, still-spanned u)
 
 -- the point is spanned, as the test said
-module _ (c : tie.After-is-spanned Inv-loop μ-loop) where
-  abbrev r : tie.After-point-at Inv-loop μ-loop
-  r = c .before .before
-
-  spanned : c .is-spanned .result ≡ true → Spanned (s r .args .disk) (Q r) (p r .x)
-  spanned e =
-      let lo = at r .loop .span .lo in
-      let hi = at r .loop .span .hi in
-      let z = toZ w16 (ofZ w16 (p r .x)) in
-      let within : T (ltZ lo z && ltZ z hi) = subst T (sym (sym (c .is-spanned .ensures) ∙ e)) tt in
-      subst (Spanned (s r .args .disk) (Q r)) (toZ-ofZ (record { sfits = c .before .struct-told .given .0 .1 }))
-      (at r .loop .inv .3 z (record { lt = and-left (ltZ lo z) (ltZ z hi) within }) (record { lt = and-right (ltZ lo z) (ltZ z hi) within }))
+spanned : (c : tie.After-is-spanned Inv-loop μ-loop) → c .is-spanned .result ≡ true → let e = c .before .before in Spanned (s e .args .disk) (Q e) (p e .x)
+spanned c t =
+    let e = c .before .before in
+    let lo = at e .loop .span .lo in
+    let hi = at e .loop .span .hi in
+    let z = toZ w16 (ofZ w16 (p e .x)) in
+    let within : T (ltZ lo z && ltZ z hi) = subst T (sym (sym (c .is-spanned .ensures) ∙ t)) tt in
+    subst (Spanned (s e .args .disk) (Q e)) (toZ-ofZ (record { sfits = c .before .struct-told .given .0 .1 }))
+    (at e .loop .inv .4 z (record { lt = and-left (ltZ lo z) (ltZ z hi) within }) (record { lt = and-right (ltZ lo z) (ltZ z hi) within }))
 
 loop-less-3 : tie.Need-loop-less-3 Inv-loop μ-loop
-loop-less-3 c = omega arith
+loop-less-3 c = omega (arith, c .before .before .before .before .loop-test .taken)
 
 loop-again-3 : tie.Need-loop-again-3 Inv-loop μ-loop
 loop-again-3 c =
-    let u = r (c .before) in
-    let d = s u .args .disk in
-    let B = boundaryOf d (P u) in
-    let now-kept : Kept d (boundaryOf d (drop (at u .loop .i - 1) (points (s u .args .list .now)))) (Q u) =
+    let e = c .before .before .before in
+    let d = s e .args .disk in
+    let k = at e .loop .inv .3 in
+    let left-out : Kept d (P e ++ (p e ∷ [])) (Q e) =
     elim (c .if1 .came) [
-      | inl t ↦ after u (Q u) (λ e. absurd (true≢false (sym e ∙ sym (t .1 .ensures) ∙ t .2 .left))) (λ e. kept-before u)
-      | inr t ↦ after u (Q u) (λ e. kept-spanned d B (Q u) (p u) (spanned (c .before) (not-false (c .before .is-spanned .result) (t .left))) (kept-before u)) (λ e. kept-before u)
+      | inl t ↦ kept-off d (P e) (Q e) (p e) k (sym (t .1 .ensures) ∙ t .2 .left)
+      | inr t ↦ kept-spanned d (P e) (Q e) (p e) k (spanned (c .before) (not-false (c .before .is-spanned .result) (t .left)))
     ] in
-    (omega (arith, at u .loop .inv .0), at u .loop .inv .1, now-kept, at u .loop .inv .3)
+    (omega (arith, e .before .loop-test .taken), omega (arith, at e .loop .inv .1), at e .loop .inv .2, now-kept e (Q e) left-out, at e .loop .inv .4)
 
 same-length : tie.Need-same-length Inv-loop μ-loop
-same-length c = c .before .loop .inv .1
+same-length c = c .before .loop .inv .2
 
 returns : tie.Need-returns Inv-loop μ-loop
 returns c =
     let l = c .before .loop in
     let st = c .before .before in
-    let e : l .i ≡ 0 = omega arith in (
-      omega (arith, l .inv .0, l .inv .1, st .pre .1),
-      kept-finds (points (st .args .list .now)) (points-some (st .args .list .now) (st .pre .0 .some)) (st .args .disk) (st .pre .0 .smallest) (firstPoints (l .m) (l .out)) (rw e at (l .inv .2)),
+    let whole : firstPoints (l .i) (st .args .list .now) ≡ points (st .args .list .now) = firstPoints-whole (l .i) (st .args .list .now) (omega (arith, l .inv .0)) (omega (arith, c .loop-test .left)) in (
+      omega (arith, l .inv .0, l .inv .1, l .inv .2, st .pre .1),
+      kept-finds (points (st .args .list .now)) (points-some (st .args .list .now) (st .pre .0 .some)) (st .args .disk) (st .pre .0 .smallest) (firstPoints (l .m) (l .out))
+          (subst (λ (P : List Point). Kept (st .args .disk) P (firstPoints (l .m) (l .out))) whole (l .inv .3)),
     )
 
 pub collect-spec : {M : Type 1} → statement M
@@ -215,8 +187,8 @@ collect-spec =
     Inv-loop
     μ-loop
     loop-holds
-    sub-i
     point-at-requires
+    add-i
     is-spanned-requires
     on-boundary-requires
     insert-point-requires

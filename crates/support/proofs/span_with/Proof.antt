@@ -1,13 +1,10 @@
 -- `support::span_with` meets its contract: two opposite points of the list span what is strictly between them.
-use borrow.Author.Needs.{needs}
 use mathlib.Core.Path.{_≡_, sym, subst, _∙_}
 use mathlib.Core.Bool.{true}
-use Prim.Native.Nat.{_-_, _*_, _≤_}
+use Prim.Native.Nat.{_-_, _≤_}
 use native.Mathlib.Omega.{arith}
-use lib.ListN.{length}
-use lib.IntN.{ℤ}
 use mir.Syntax.{w16}
-use mir.Val.{SFits, toZ, ofZ}
+use mir.Val.{SFits}
 use mir.Facts.{toZ-ofZ}
 use Rattle.geometry.specs.declared.Point.{Point}
 use Rattle.geometry.specs.Points.{firstPoints}
@@ -26,14 +23,14 @@ abbrev μ-loop : tie.MeasureT-loop
 
 -- where the opposite q of p was found, and both x are at hand
 module _ (c : tie.After-struct-told2 Inv-loop μ-loop) where
-  abbrev found : tie.Then2 Inv-loop μ-loop
+  abbrev found : tie.Then1 Inv-loop μ-loop
   found = c .before .before .before .before
 
   abbrev read : tie.After-point-at Inv-loop μ-loop
   read = found .before .before
 
   abbrev s : tie.Start Inv-loop μ-loop
-  s = read .before .before .before .before
+  s = read .before .before .before
 
   abbrev p : Point
   p = s .args .p
@@ -53,34 +50,31 @@ module _ (c : tie.After-struct-told2 Inv-loop μ-loop) where
       (pointAt-firstPoints (read .before .before .loop .k) (s .args .n) (s .args .list .now) (read .before .loop-test .taken) (s .pre .0 .0))
 
   across : opposite (s .args .disk) p q ≡ true
-  across = sym (found .before .is-opposite .ensures) ∙ found .if2 .taken
-
-returns : tie.Need-returns Inv-loop μ-loop
-returns c = c .before .pre .1 .1
+  across = sym (found .before .is-opposite .ensures) ∙ found .if1 .taken
 
 loop-holds : tie.Need-loop-holds Inv-loop μ-loop
 loop-holds c = omega arith
 
 point-at-requires : tie.Need-point-at-requires Inv-loop μ-loop
-point-at-requires c κs = omega (arith, c .before .before .before .pre .0 .0)
+point-at-requires c κs = omega (arith, c .before .before .pre .0 .0)
 
 is-opposite-requires : tie.Need-is-opposite-requires Inv-loop μ-loop
-is-opposite-requires c κs = c .before .before .before .before .pre .0 .1
+is-opposite-requires c κs = c .before .before .before .pre .0 .1
+
+returns : tie.Need-returns Inv-loop μ-loop
+returns c =
+    let u = c .before .before .before in
+    let Q = firstPoints (s u .args .n) (s u .args .list .now) in
+    across-spans (s u .args .disk) Q (p u) (q u) (s u .pre .1 .0) (q-in u) (across u) (toZ-ofZ (p-fits u)) (toZ-ofZ (q-fits u))
 
 returns-2 : tie.Need-returns-2 Inv-loop μ-loop
 returns-2 c =
     let u = c .before .before .before in
     let Q = firstPoints (s u .args .n) (s u .args .list .now) in
-    across-spans (s u .args .disk) Q (p u) (q u) (s u .pre .1 .0) (q-in u) (across u) (toZ-ofZ (p-fits u)) (toZ-ofZ (q-fits u))
-
-returns-3 : tie.Need-returns-3 Inv-loop μ-loop
-returns-3 c =
-    let u = c .before .before .before in
-    let Q = firstPoints (s u .args .n) (s u .args .list .now) in
     across-spans (s u .args .disk) Q (q u) (p u) (q-in u) (s u .pre .1 .0) (opposite-swap (s u .args .disk) (q u) (p u) ∙ across u) (toZ-ofZ (q-fits u)) (toZ-ofZ (p-fits u))
 
 add-k : tie.Need-add-k Inv-loop μ-loop
-add-k c = omega (arith, c .before .before .before .before .before .before .pre .0 .0)
+add-k c = omega (arith, c .before .before .before .before .before .pre .0 .0)
 
 loop-less : tie.Need-loop-less Inv-loop μ-loop
 loop-less c = omega arith
@@ -88,8 +82,8 @@ loop-less c = omega arith
 loop-again : tie.Need-loop-again Inv-loop μ-loop
 loop-again c = omega arith
 
-returns-4 : tie.Need-returns-4 Inv-loop μ-loop
-returns-4 c = c .before .before .before .pre .1 .1
+returns-3 : tie.Need-returns-3 Inv-loop μ-loop
+returns-3 c = c .before .before .pre .1 .1
 
 pub span-with-spec : {M : Type 1} → statement M
 span-with-spec =
@@ -97,13 +91,12 @@ span-with-spec =
     (tie.spec
     Inv-loop
     μ-loop
-    returns
     loop-holds
     point-at-requires
     is-opposite-requires
+    returns
     returns-2
-    returns-3
     add-k
     loop-less
     loop-again
-    returns-4)
+    returns-3)
