@@ -15,18 +15,18 @@ pub enum Enclosed {
     Refused(Refusal),
 }
 
-// Whether every point of the list lies in the em box.
+// Whether every point of the list lies in the em box. A list is seldom refused, and without a way out of the loop it takes several
+// points at a time.
 fn all_in_em_box(list: &[i16]) -> bool
     requires { ⌜ length (now list) % 2 ≡ 0 ⌝ }
     ensures { λ r. ⌜ r ≡ allInEmBox (points (now (list .entry))) ⌝ }
 {
     let n = list.len() / 2;
+    let mut all = true;
     for i in 0..n {
-        if !geometry::in_em_box(geometry::point_at(list, i)) {
-            return false;
-        }
+        all = all & geometry::in_em_box(geometry::point_at(list, i));
     }
-    true
+    all
 }
 
 // The smallest disk that holds the list's points, by Welzl's move-to-front procedure (01: the disk engine). The list is left as the

@@ -1,21 +1,13 @@
 -- `support::is_spanned` meets its contract: two comparisons.
-use mathlib.Core.Path.{_≡_, refl, sym, _∙_}
-use mathlib.Core.Bool.{Bool, true, false, _&&_, true≢false}
+use mathlib.Core.Path.{_≡_, sym, _∙_}
+use mathlib.Core.Bool.{false}
 use lib.Signed.{ltZ}
 use mir.Syntax.{w16}
 use mir.Val.{SFits, toZ, ofZ}
+use Rattle.integers.specs.Between.{stop, pass}
 use Rattle.geometry.proofs.Coordinates.{compared}
 use Rattle.support.proofs.is_spanned.Statement.{statement}
 use Rattle.support.proofs.is_spanned.Tie as tie
-
--- the second test decides where the first holds, and the first where it does not
-second : (a b : Bool) → a ≡ true → b ≡ a && b
-second true b e = refl
-second false b e = absurd (true≢false (sym e))
-
-first : (a b : Bool) → a ≡ false → a ≡ a && b
-first true b e = absurd (true≢false e)
-first false b e = refl
 
 module _ (c : tie.After-struct-told) where
   abbrev s : tie.Start
@@ -30,15 +22,14 @@ module _ (c : tie.After-struct-told) where
 returns : tie.Need-returns
 returns c =
     let then = c .before .before .before in
-    let l = s then .args .span in
-    let z = s then .args .x in
-    compared (s then .fits .x) (record { sfits = c .struct-told2 .given .1 .0 .1 }) ∙ second (ltZ (l .lo) z) (ltZ z (l .hi)) (sym (lo-test then) ∙ c .before .before .if1 .taken)
+    pass (sym (lo-test then) ∙ c .before .before .if1 .taken) (compared (s then .fits .x) (record { sfits = c .struct-told2 .given .1 .0 .1 }))
 
 returns-2 : tie.Need-returns-2
 returns-2 c =
     let l = s (c .before) .args .span in
     let z = s (c .before) .args .x in
-    lo-test (c .before) ∙ first (ltZ (l .lo) z) (ltZ z (l .hi)) (sym (lo-test (c .before)) ∙ c .if1 .left)
+    let fails : ltZ (l .lo) z ≡ false = sym (lo-test (c .before)) ∙ c .if1 .left in
+    lo-test (c .before) ∙ fails ∙ stop (ltZ z (l .hi)) fails
 
 pub is-spanned-spec : {M : Type 1} → statement M
 is-spanned-spec = tie.close (tie.spec returns returns-2)
