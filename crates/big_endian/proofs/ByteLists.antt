@@ -8,7 +8,7 @@
 --   bytesOf-get      : the bytes of a field that was read are the field's own
 --   put-get          : a field that is read and written again leaves the list as it was
 use mathlib.Core.Path.{_≡_, refl, sym, ap, ap₂, _∙_, subst}
-use mathlib.Core.List.{List, [], _∷_, _++_, append-assoc}
+use mathlib.Core.List.{List, _∷_, _++_, append-assoc}
 use Prim.Native.Nat.{ℕ, zero, suc, _+_, _*_, _/_, _%_, _^_, _≤_, _<_}
 use native.Mathlib.Nat.{suc-add, add-suc, le-add-right, div-one, one-mul, div-lt-iff-lt-mul}
 use native.Mathlib.Omega.{arith}

@@ -1,22 +1,22 @@
 -- Demand 1 holds (specs/Demand1.antt).
-use mathlib.Core.Path.{_≡_, refl, sym, ap, _∙_, subst}
+use mathlib.Core.Path.{_≡_, sym, ap, _∙_, subst}
 use mathlib.Core.Logic.{_↔_}
 use mathlib.Core.Bool.{true}
 use mathlib.Core.List.{List}
-use Prim.Native.Nat.{ℕ, _/_, _%_, _≤_, _<_}
+use Prim.Native.Nat.{ℕ, _/_, _%_, _≤_}
 use native.Mathlib.Omega.{arith}
 use borrow.Author.Tests.{eq-eqb, eqb-true, le-ltb, ltb-false, lt-leb, leb-false, not-false}
 use lib.IntN.{ℤ}
 use lib.ListN.{length}
-use Rattle.answers.specs.Outcome.{Outcome, given, refused}
+use Rattle.answers.specs.Outcome.{Outcome}
 use Rattle.answers.proofs.OutcomeLaws.{not-refused}
 use Rattle.geometry.specs.declared.Point.{Point}
 use Rattle.geometry.specs.declared.Disk.{Disk}
 use Rattle.geometry.specs.Points.{points}
-use Rattle.description.specs.Description.{linesRead, named, loadOf}
+use Rattle.description.specs.Description.{linesRead, loadOf}
 use Rattle.description.proofs.Loading.{load-judged, after-refused}
 use Rattle.description.proofs.Accepted.{accepted-room, accepted-short, accepted-count, accepted-some, accepted-few, accepted-in-box}
-use Rattle.sheet.specs.Sheet.{count, directoryEnd, pair, pairs, follow, glyphOf}
+use Rattle.sheet.specs.Sheet.{count, directoryEnd, pair, glyphOf}
 use Rattle.engine.specs.Engine.{enclosure, encloseOf}
 use Rattle.engine.proofs.Checks.{accepted, list-refused, even-length, some-length}
 use Rattle.engine.proofs.Accepted.{accepted-list}

@@ -5,18 +5,16 @@ use mathlib.Core.List.{List, [], _∷_}
 use lib.IntN.{ℤ}
 use Rattle.answers.specs.Outcome.{given}
 use Rattle.geometry.specs.declared.Point.{Point}
-use Rattle.geometry.specs.declared.Disk.{Disk}
 use Rattle.geometry.specs.Plane.{allInEmBox}
 use Rattle.geometry.specs.Points.{points}
 use Rattle.geometry.proofs.EmBox.{box-members}
-use Rattle.disks.specs.Smallest.{Smallest}
 use Rattle.disks.proofs.Minimal.{same-refl}
 use Rattle.disks.proofs.Welzl.{smallest}
 use Rattle.disks.proofs.OneWriting.{smallest-same}
 use Rattle.disks.proofs.Answer.{limits}
 use Rattle.disks.proofs.First.{first-support, first-unique}
 use Rattle.engine.specs.Engine.{Enclosure, enclosure, encloseOf}
-use Rattle.engine.proofs.Accepted.{Accepted, accepted-list, has-point}
+use Rattle.engine.proofs.Accepted.{accepted-list, has-point}
 use Rattle.record.specs.Reading.{readOf}
 use Rattle.record.proofs.RoundTrip.{read-written, written-again}
 use Rattle.claims.proofs.Records.{written, written-valid, filled}

@@ -6,14 +6,13 @@
 --   records-equal     : two records worked out are equal exactly where the disks and the first support sets are
 --   demand-three      : Demand3
 use mathlib.Core.Path.{_≡_, refl, sym, ap, ap₂, _∙_, subst}
-use mathlib.Core.Logic.{_↔_}
 use mathlib.Core.Bool.{true}
 use mathlib.Core.List.{List, [], _∷_, List·Permᴰ}
 use Prim.Native.Nat.{ℕ, _+_, _*_, _/_, _%_, _≤_}
 use native.Mathlib.Omega.{arith}
 use lib.IntN.{ℤ}
 use lib.ListN.{length, take}
-use Rattle.answers.specs.Outcome.{Outcome, given, andThen}
+use Rattle.answers.specs.Outcome.{given}
 use Rattle.integers.specs.Between.{true-test}
 use Rattle.geometry.specs.declared.Point.{Point}
 use Rattle.geometry.specs.declared.Disk.{Disk}
@@ -21,10 +20,9 @@ use Rattle.geometry.specs.Plane.{allInEmBox}
 use Rattle.geometry.specs.Points.{points, flat}
 use Rattle.geometry.proofs.EmBox.{members-box}
 use Rattle.geometry.proofs.PointLists.{length-flat, points-of-flat}
-use Rattle.disks.specs.Smallest.{In, Same, Smallest}
+use Rattle.disks.specs.Smallest.{Same, Smallest}
 use Rattle.disks.specs.Procedure.{Cover, disk, State, mtf, diskIn, diskOf, testsOf, orderOf}
 use Rattle.disks.specs.Support.{firstSupport}
-use Rattle.disks.specs.FirstSupport.{IsFirstSupport}
 use Rattle.disks.proofs.LiftedProcedure as L
 use Rattle.disks.proofs.Bridge.{cover-disk, mtf-image}
 use Rattle.disks.proofs.Correct.{mtf-strong}

@@ -1,6 +1,5 @@
 -- The letters of document 01 hold (specs/Letters.antt), by computing.
 use mathlib.Core.Path.{refl}
-use mathlib.Core.List.{List, [], _∷_}
 use Rattle.integers.specs.Gcd.{gcd, steps}
 use Rattle.geometry.specs.Plane.{holds, inEmBox, allInEmBox}
 use Rattle.geometry.specs.Order.{before}
@@ -10,7 +9,7 @@ use Rattle.disks.specs.Support.{insert, sorted, fronted, choose, sameDisk, supp
 use Rattle.engine.specs.Engine.{encloseOf, listAfter}
 use Rattle.record.specs.Least.{least, firstFrom}
 use Rattle.record.specs.Valid.{centreInEmBox, validDisk, rising, validPoints, valid}
-use Rattle.claims.specs.Letters.{Letter, Holds, letters, AllHold}
+use Rattle.claims.specs.Letters.{letters, AllHold}
 
 pub letters-hold : AllHold letters
 unfolding gcd steps holds inEmBox allInEmBox before points flat outside lowestTerms diameterDisk turnedBy circle boundaryDisk tested step through run insert sorted fronted choose sameDisk supports firstOf firstSupport encloseOf listAfter least firstFrom centreInEmBox validDisk rising validPoints valid

@@ -2,12 +2,11 @@
 --
 --   written, in-front, filled : a valid disk and points, in a buffer that is long enough: the writer is done, and the record stands in front
 --   written-valid      : what the writer does not refuse is valid, and the buffer long enough
-use mathlib.Core.Path.{_≡_, refl, sym, ap, _∙_, subst}
+use mathlib.Core.Path.{_≡_, ap, _∙_}
 use mathlib.Core.Bool.{true, _&&_}
 use mathlib.Core.List.{List, _++_}
 use Prim.Native.Nat.{ℕ, _≤_}
 use borrow.Author.Tests.{le-ltb, ltb-false, not-false}
-use lib.Dec.{ltb}
 use lib.ListN.{length, take, drop}
 use lib.Seq.{take-at}
 use Rattle.answers.specs.Outcome.{Outcome, given}

@@ -8,9 +8,9 @@
 --   accepted-front, accepted-rest : they stand at the front of the list, and the rest of it is as it was
 --   accepted-points           : read back from the front of the list they are those named
 use Prim.Native.Nat.{ℕ, suc, _+_, _*_, _≤_, _<_}
-use mathlib.Core.Path.{_≡_, refl, sym, _∙_, ap}
+use mathlib.Core.Path.{_≡_, sym, _∙_, ap}
 use mathlib.Core.Logic.{_⊎_, inl, inr}
-use mathlib.Core.Bool.{Bool, true, false, not}
+use mathlib.Core.Bool.{true, not}
 use mathlib.Core.List.{List, [], _∷_, List·Memᴰ, List·Memᴰ·cases-cons, List·Memᴰ·not-nil}
 use native.Mathlib.Omega.{arith}
 use borrow.Author.Tests.{le-ltb, ltb-false, leb-false, eqb-false, not-false}
@@ -18,7 +18,7 @@ use lib.Dec.{ltb, leb, eqb}
 use lib.IntN.{ℤ}
 use lib.ListN.{length, take, drop}
 use lib.Seq.{take-at, drop-at}
-use Rattle.answers.specs.Outcome.{Outcome, given, refused, refuseIf}
+use Rattle.answers.specs.Outcome.{Outcome, given, refuseIf}
 use Rattle.geometry.specs.declared.Point.{Point}
 use Rattle.geometry.specs.Plane.{inEmBox}
 use Rattle.geometry.specs.Points.{points, flat, firstPoints}

@@ -31,7 +31,7 @@ use Rattle.description.specs.declared.Scanned as scanned
 use Rattle.description.specs.declared.Scanned.{Scanned}
 use Rattle.description.specs.declared.Step as step
 use Rattle.description.specs.declared.Step.{Step}
-use Rattle.description.specs.Description.{digits, numeral, blank, point, fault, lineOf, linesRead, byLine, isDigit}
+use Rattle.description.specs.Description.{digits, numeral, blank, point, fault, lineOf, linesRead, byLine}
 
 abbrev pub isByte : ℕ → ℕ → Bool
 isByte b a = eqb a b

@@ -6,7 +6,7 @@
 --   written-value      : E · value F p is g² times the distance of p less S, in d's numbers
 use mathlib.Core.Path.{_≡_, refl, sym, _∙_, ap, ap₂}
 use mathlib.Core.List.{[], _∷_}
-use Prim.Native.Nat.{ℕ, _+_, _*_, _/_, _≤_, _<_, _∣_}
+use Prim.Native.Nat.{ℕ, _*_, _/_, _≤_, _∣_}
 use native.Mathlib.Nat.{mul-le-mul, mul-div-cancel', mul-div-cancel-left}
 use lib.IntN.{ℤ, pos, negsuc, negℤ, natAbs, _+ℤ_, _-ℤ_, _*ℤ_}
 use lib.Signed.{_<ℤ_, quotZ}

@@ -3,7 +3,7 @@
 --   Accepted l e   == the rules of document 01 for a point list, and the answer e
 --   accepted-list  : a list whose answer is given keeps them
 --   has-point      : such a list has a point
-use mathlib.Core.Path.{_≡_, refl, sym, ap, _∙_}
+use mathlib.Core.Path.{_≡_, refl, sym}
 use mathlib.Core.Bool.{true}
 use mathlib.Core.List.{List, [], _∷_}
 use Prim.Native.Nat.{ℕ, _/_, _%_, _≤_}
@@ -13,7 +13,6 @@ use lib.IntN.{ℤ}
 use lib.ListN.{length}
 use Rattle.answers.specs.Outcome.{given}
 use Rattle.answers.proofs.OutcomeLaws.{not-refused, same-given}
-use Rattle.geometry.specs.declared.Point.{Point}
 use Rattle.geometry.specs.Plane.{allInEmBox}
 use Rattle.geometry.specs.Points.{points}
 use Rattle.engine.specs.Engine.{Enclosure, enclosure, encloseOf}

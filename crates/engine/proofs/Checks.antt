@@ -6,15 +6,14 @@
 --   even-length, some-length : the length of a list that passed the first two
 --   list-accepted  : an accepted list is left as the procedure leaves it
 use mathlib.Core.Path.{_≡_, refl, ap}
-use mathlib.Core.Bool.{Bool, true, false, not}
+use mathlib.Core.Bool.{true, false}
 use mathlib.Core.List.{List, [], _∷_}
 use native.Mathlib.Omega.{arith}
 use Prim.Native.Nat.{ℕ, zero, suc, _/_, _%_, _≤_, _<_}
 use borrow.Author.Tests.{eq-eqb, ne-eqb, lt-ltb, le-ltb}
-use lib.Dec.{eqb, ltb}
 use lib.IntN.{ℤ}
 use lib.ListN.{length}
-use Rattle.answers.specs.Outcome.{Outcome, given, refused, refuseIf}
+use Rattle.answers.specs.Outcome.{Outcome, given, refused}
 use Rattle.geometry.specs.Plane.{allInEmBox}
 use Rattle.geometry.specs.Points.{points, flat}
 use Rattle.disks.specs.Procedure.{orderOf}

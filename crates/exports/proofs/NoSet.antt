@@ -3,8 +3,8 @@
 --   other-size : a size other than 1, 2 and 3 counts no points
 --   no-points  : no record holds a set of no points
 --   no-radius, no-preview, no-writing : so the calls that take a support set refuse it with 7, the writer after 8
-use mathlib.Core.Path.{_≡_, refl, ap}
-use mathlib.Core.Bool.{Bool, true, false, not, _&&_}
+use mathlib.Core.Path.{_≡_, refl}
+use mathlib.Core.Bool.{Bool, true, false, _&&_}
 use mathlib.Core.List.{List, []}
 use Prim.Native.Nat.{ℕ, zero, suc}
 use lib.Dec.{ltb}

@@ -1,12 +1,13 @@
 -- A list of numbers as points, and points as numbers.
 --
+--   two-suc                 : 2(n + 1) as two more than 2n
 --   toFront l i             == point i moved to the front, those before it back by one place
 --   length-flat             : the numbers of n points are 2n
 --   flat-append             : the numbers of two lists of points, one after the other
 --   points-flat             : the points of the numbers of ps, with more numbers behind
 --   flat-points             : the numbers of the points of a list of even length are the list
 --   firstPoints-flat        : of those numbers with more behind, the first points are ps
---   firstPoints-all         : all points are the first n, where there are n
+--   firstPoints-whole       : with n half the length, rounded down, the first n points are all; firstPoints-all: of an even length
 --   flat-firstPoints        : the numbers of the first n points and the rest are the list
 --   length-firstPoints      : the first n points are n
 --   firstPoints-next        : the first n + 1 points are the first n and point n
@@ -30,7 +31,7 @@ use Rattle.geometry.specs.Points.{points, flat, pointAt, firstPoints}
 abbrev pub toFront : List ℤ → ℕ → List ℤ
 toFront l i = getD l (2 * i) (pos 0) ∷ getD l (2 * i + 1) (pos 0) ∷ (take (2 * i) l ++ drop (2 * i + 2) l)
 
-two-suc : (n : ℕ) → 2 * suc n ≡ suc (suc (2 * n))
+pub two-suc : (n : ℕ) → 2 * suc n ≡ suc (suc (2 * n))
 two-suc n = omega arith
 
 two-suc-one : (n : ℕ) → 2 * suc n + 1 ≡ suc (suc (2 * n + 1))
@@ -75,13 +76,17 @@ unfolding points flat
 firstPoints-flat [] rest = refl
 firstPoints-flat (p ∷ ps) rest = firstPoints-cons (length ps) (p .x) (p .y) (flat ps ++ rest) ∙ ap {B = List Point} (λ qs. p ∷ qs) (firstPoints-flat ps rest)
 
-pub firstPoints-all : (n : ℕ) (l : List ℤ) → length l ≡ 2 * n → firstPoints n l ≡ points l
+pub firstPoints-whole : (n : ℕ) (l : List ℤ) → 2 * n ≤ length l → length l < 2 * n + 2 → firstPoints n l ≡ points l
 unfolding points
-firstPoints-all zero [] h = refl
-firstPoints-all zero (x ∷ l) h = absurd (omega arith)
-firstPoints-all (suc n) [] h = absurd (omega arith)
-firstPoints-all (suc n) (x ∷ []) h = absurd (omega arith)
-firstPoints-all (suc n) (x ∷ y ∷ l) h = firstPoints-cons n x y l ∙ ap {B = List Point} (λ qs. record { x = x; y = y } ∷ qs) (firstPoints-all n l (omega arith))
+firstPoints-whole zero [] h k = refl
+firstPoints-whole zero (x ∷ []) h k = refl
+firstPoints-whole zero (x ∷ y ∷ l) h k = absurd (omega arith)
+firstPoints-whole (suc n) [] h k = absurd (omega arith)
+firstPoints-whole (suc n) (x ∷ []) h k = absurd (omega arith)
+firstPoints-whole (suc n) (x ∷ y ∷ l) h k = firstPoints-cons n x y l ∙ ap {B = List Point} (λ qs. record { x = x; y = y } ∷ qs) (firstPoints-whole n l (omega arith) (omega arith))
+
+pub firstPoints-all : (n : ℕ) (l : List ℤ) → length l ≡ 2 * n → firstPoints n l ≡ points l
+firstPoints-all n l e = firstPoints-whole n l (omega arith) (omega arith)
 
 pub flat-firstPoints : (n : ℕ) (l : List ℤ) → 2 * n ≤ length l → flat (firstPoints n l) ++ drop (2 * n) l ≡ l
 unfolding points flat

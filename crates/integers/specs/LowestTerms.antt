@@ -13,7 +13,7 @@
 --   lowest-proportion                                  : the triple in lowest terms is in proportion with the triple
 --
 -- Scaling, and that a reduced triple is the only one in its proportion: Reduced.antt.
-use mathlib.Core.Path.{_≡_, refl, sym, ap, ap₂, _∙_, subst}
+use mathlib.Core.Path.{_≡_, refl, sym, ap, _∙_, subst}
 use Prim.Native.Nat.{ℕ, zero, suc, _*_, _/_, _≤_, _<_, _∣_}
 use native.Mathlib.Nat.{dvd-trans, le-of-dvd, pos-of-dvd-of-pos, mul-dvd-mul-right, div-mul-cancel, eq-one-of-dvd-one, dvd-of-mul-dvd-mul-right, one-mul, zero-mul, not-suc-le-zero, zero-lt-suc}
 use mathlib.Core.List.{[], _∷_}

@@ -5,7 +5,7 @@
 --   reduced-common   : a reduced triple has the common divisor 1
 --   reduced-unique   : two reduced triples with x·e' ≡ x'·e and y·e' ≡ y'·e, e and e' ≥ 1, are equal
 --   lowest-unique    : a reduced triple in proportion with x, y, e is their lowest terms
-use mathlib.Core.Path.{_≡_, refl, sym, ap, ap₂, _∙_, subst}
+use mathlib.Core.Path.{_≡_, refl, sym, ap, ap₂, _∙_}
 use mathlib.Core.List.{[], _∷_}
 use Prim.Native.Nat.{ℕ, zero, suc, _*_, _/_, _<_}
 use native.Mathlib.Nat.{mul-div-mul-left, mul-comm, mul-one, zero-div}
@@ -18,7 +18,6 @@ use Rattle.integers.specs.Laws.{*-comm}
 use Rattle.integers.specs.LowestTerms.{common, over, lowest, Reduced, divides-x, divides-y, divides-e, lowest-pos, lowest-reduced, lowest-proportion}
 use Rattle.integers.specs.Order.{≡-cancel}
 use Rattle.integers.specs.Ring.{poly, linear, eqn, _&_}
-use Rattle.integers.specs.declared.Triple.{Triple}
 
 -- ---- scaling
 

@@ -6,15 +6,15 @@
 --   follow-early   : where pair i starts before `end`, it is broken
 --   follow-late    : where pair i ends behind the l bytes, it is broken
 --   follow-next    : else it holds as it does of the next pairs, with pair i's end
-use mathlib.Core.Path.{_≡_, refl, sym, ap, _∙_, subst}
-use mathlib.Core.Bool.{Bool, true, false, _&&_}
+use mathlib.Core.Path.{_≡_, sym, ap, _∙_}
+use mathlib.Core.Bool.{true, false, _&&_}
 use mathlib.Core.List.{List, [], _∷_}
-use Prim.Native.Nat.{ℕ, zero, suc, _+_, _-_, _≤_, _<_}
+use Prim.Native.Nat.{ℕ, suc, _+_, _-_, _≤_, _<_}
 use native.Mathlib.Numerals.{add-one}
 use native.Mathlib.Omega.{arith}
 use borrow.Author.Tests.{le-leb, lt-leb}
 use lib.Dec.{leb}
-use Rattle.sheet.specs.Sheet.{Place, pair, pairs, follow}
+use Rattle.sheet.specs.Sheet.{pair, pairs, follow}
 
 pub pairs-step : (s : List ℕ) (i n : ℕ) → i < n → pairs s i (n - i) ≡ pair s i ∷ pairs s (i + 1) (n - (i + 1))
 unfolding pairs

@@ -8,10 +8,10 @@
 --   given-part                 : `part` hands over exactly its bytes, and as many as its length says
 --   Apart s i j                == part i ends no later than part j starts
 --   pairs-sorted               : of a sheet that gives a glyph each part ends before a later one starts; so the pairs are sorted by offset
-use mathlib.Core.Path.{_≡_, refl, sym, ap, _∙_, subst, subst₂}
-use mathlib.Core.Bool.{Bool, true, false, not, _&&_, true≢false}
-use mathlib.Core.List.{List, [], _∷_}
-use Prim.Native.Nat.{ℕ, zero, suc, _+_, _-_, _*_, _≤_, _<_}
+use mathlib.Core.Path.{_≡_, sym, ap, _∙_, subst, subst₂}
+use mathlib.Core.Bool.{Bool, true, not, _&&_}
+use mathlib.Core.List.{List, _∷_}
+use Prim.Native.Nat.{ℕ, zero, suc, _+_, _-_, _≤_, _<_}
 use native.Mathlib.Nat.{add-zero, zero-add, add-suc, suc-add, le-trans, le-add-right}
 use native.Mathlib.Omega.{arith}
 use borrow.Author.Tests.{le-leb, leb-true, leb-false, ltb-false, not-false}
@@ -21,7 +21,7 @@ use lib.Seq.{length-take-le}
 use Rattle.integers.specs.Between.{first, rest}
 use Rattle.answers.specs.Outcome.{Outcome, given, refused, refuseIf}
 use Rattle.answers.proofs.OutcomeLaws.{not-refused}
-use Rattle.sheet.specs.Sheet.{Place, number, count, directoryEnd, pair, pairs, follow, glyphOf, pickList, partOf}
+use Rattle.sheet.specs.Sheet.{Place, count, directoryEnd, pair, pairs, follow, glyphOf, pickList, partOf}
 
 -- ---- the rule of the pairs
 

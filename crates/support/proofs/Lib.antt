@@ -1,5 +1,5 @@
 pub mod Numbers
-pub mod PointRows
+pub mod PointPut
 pub mod Placing
 pub mod Boundary
 pub mod Left

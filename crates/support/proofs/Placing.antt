@@ -6,13 +6,13 @@
 --   placed                         : where the place is At k, the point goes in there
 --   there                          : where it is There, the list stays
 --   placed-is, placed-length       : from the number 0 on: the list with the point, which has one more
-use mathlib.Core.Path.{_≡_, refl, sym, ap, subst, _∙_}
+use mathlib.Core.Path.{_≡_, refl, ap, _∙_}
 use mathlib.Core.Bool.{Bool, true, false}
 use mathlib.Core.List.{List, [], _∷_}
 use Prim.Native.Nat.{ℕ, suc, _+_, _-_, _≤_}
 use native.Mathlib.Omega.{arith}
-use lib.Dec.{T}
 use lib.ListN.{length, length-append, length-take, length-drop}
+use Rattle.integers.specs.Between.{true-test}
 use Rattle.geometry.specs.declared.Point.{Point}
 use Rattle.geometry.specs.Order.{before}
 use Rattle.disks.specs.Support.{insert}
@@ -36,11 +36,8 @@ module _ (p q : Point) (Q : List Point) where
 pub behind-not-before : (p q : Point) → before q p ≡ true → before p q ≡ false
 behind-not-before p q h = go (before p q) refl
   where
-    is : {b : Bool} → b ≡ true → T b
-    is e = subst T (sym e) tt
-
     go : (b : Bool) → before p q ≡ b → before p q ≡ false
-    go true e = absurd (before-not-equal p p (before-trans p q p (is e) (is h)) refl)
+    go true e = absurd (before-not-equal p p (before-trans p q p (true-test e) (true-test h)) refl)
     go false e = e
 
 pub place-end : (p : Point) (k : ℕ) → placeOf p [] k ≡ At k

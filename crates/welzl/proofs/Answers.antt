@@ -7,23 +7,23 @@
 --   ran-whole                 : the promise `Ran`, of a whole list with no point fixed, is `Whole`
 use mathlib.Core.Path.{_≡_, refl, sym, ap, subst, _∙_}
 use mathlib.Core.Logic.{_⊎_, inl, inr}
-use mathlib.Core.Bool.{Bool, true}
-use mathlib.Core.List.{List, [], _∷_, append-nil, List·Memᴰ, List·Memᴰ·cases-cons, List·Memᴰ·not-nil}
-use Prim.Native.Nat.{ℕ, _+_, _*_, _≤_, _<_}
+use mathlib.Core.Bool.{true}
+use mathlib.Core.List.{List, [], _∷_, append-nil}
+use Prim.Native.Nat.{ℕ, _*_, _≤_, _<_}
 use native.Mathlib.Nat.{mul-le-mul}
 use native.Mathlib.Decide.{decLe}
 use native.Mathlib.Omega.{arith}
-use lib.Dec.{T}
 use lib.IntN.{ℤ, pos, negsuc, natAbs, _+ℤ_, _*ℤ_}
 use lib.ListN.{length, drop, drop-of-length-le}
 use lib.Signed.{_≤ℤ_, _<ℤ_}
-use Rattle.integers.specs.Between.{first, rest}
+use Rattle.integers.specs.Between.{test-true, true-test}
 use Rattle.integers.specs.Bounds.{Within}
 use Rattle.integers.specs.Order.{le-pos, ≤-of-<, nonneg, nonneg-by, le, sq, nn, _⊞_, _⊠_, <-≤-clash, ≤-of-eq}
 use Rattle.integers.specs.Ring.{poly}
 use Rattle.geometry.specs.declared.Point.{Point}
 use Rattle.geometry.specs.Plane.{inEmBox, allInEmBox}
 use Rattle.geometry.specs.Points.{points, flat}
+use Rattle.geometry.proofs.EmBox.{box-members}
 use Rattle.geometry.proofs.PointLists.{firstPoints-all}
 use Rattle.disks.specs.Procedure.{lowestTerms, diskOf, testsOf, orderOf}
 use Rattle.disks.proofs.Lifted.{Lifted, squaredRadius, noDisk}
@@ -41,13 +41,7 @@ use Rattle.welzl.specs.Relative.{about, nothing, AnswerNumbers, Keeps}
 use Rattle.welzl.specs.Ran.{Boxed, Ran}
 
 pub all-boxed : (P : List Point) → allInEmBox P ≡ true → Boxed P
-unfolding allInEmBox
-all-boxed [] h = record { in-box = λ q m. absurd (List·Memᴰ·not-nil m) }
-all-boxed (p ∷ P) h = record { in-box = λ q m. go q (all-boxed P (rest (inEmBox p) (allInEmBox P) h)) (List·Memᴰ·cases-cons m) }
-  where
-    go : (q : Point) → Boxed P → (q ≡ p) ⊎ List·Memᴰ q P → inEmBox q ≡ true
-    go q b (inl e) = rw e (first (inEmBox p) (allInEmBox P) h)
-    go q b (inr k) = b .in-box q k
+all-boxed P h = record { in-box = λ q m. test-true (inEmBox q) (box-members P h q m) }
 
 -- ---- the size of the numbers
 
@@ -85,9 +79,6 @@ swapped a b e h = nonneg (a ∷ b ∷ e ∷ []) (le h) (search poly depth 30) tt
 
 -- ---- the disk
 
-is-t : {b : Bool} → b ≡ true → T b
-is-t e = subst T (sym e) tt
-
 module _ (p : Point) (P : List Point) (box : Boxed (p ∷ P)) (d : RelativeDisk) (keeps : Keeps d (mtf (p ∷ P) .disk)) where
   abbrev F : Lifted
   F = mtf (p ∷ P) .disk
@@ -106,13 +97,13 @@ module _ (p : Point) (P : List Point) (box : Boxed (p ∷ P)) (d : RelativeDisk)
   about-positive = subst (λ (G : Lifted). pos 0 <ℤ G .e) same positive-e
 
   about-weight : d .e ≤ℤ pos 2000000
-  about-weight = subst (λ (G : Lifted). G .e ≤ℤ pos 2000000) same (weight p P (λ q m. is-t (box .in-box q m)))
+  about-weight = subst (λ (G : Lifted). G .e ≤ℤ pos 2000000) same (weight p P (λ q m. true-test (box .in-box q m)))
 
   about-radius : ((d .gx *ℤ d .gx +ℤ d .gy *ℤ d .gy) *ℤ pos 2) ≤ℤ (pos 1000000 *ℤ (d .e *ℤ d .e))
   about-radius =
       subst (λ (z : ℤ). (z *ℤ pos 2) ≤ℤ (pos 1000000 *ℤ (d .e *ℤ d .e))) (relative-radius (record { x = d .qx; y = d .qy }) (d .e) (d .gx) (d .gy))
       (subst (λ (G : Lifted). (squaredRadius G *ℤ pos 2) ≤ℤ (pos 1000000 *ℤ (G .e *ℤ G .e))) same
-      (box-limits (pos 0) (negsuc 249) (pos 1000) (mtf-strong p P) (λ q m. in-box q (is-t (box .in-box q m))) .radius))
+      (box-limits (pos 0) (negsuc 249) (pos 1000) (mtf-strong p P) (λ q m. in-box q (true-test (box .in-box q m))) .radius))
 
   answer-numbers : AnswerNumbers (d .e) (d .qx) (d .qy) (d .gx) (d .gy)
   answer-numbers = record {

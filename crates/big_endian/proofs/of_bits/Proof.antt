@@ -6,7 +6,7 @@ use borrow.Author.Needs.{needs}
 use lib.IntN.{pos, negsuc}
 use mir.Syntax.{w64}
 use mir.ValLaws.{toZ-pos}
-use Rattle.big_endian.specs.Twos.{half, back}
+use Rattle.big_endian.specs.Twos.{half}
 use Rattle.big_endian.proofs.TwosLaws.{half-le, half-pos, back-low, back-high}
 use Rattle.integers.proofs.Complement.{minus-fits, minus-back}
 use Rattle.big_endian.proofs.of_bits.Statement.{statement}

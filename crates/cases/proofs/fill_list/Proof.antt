@@ -1,9 +1,8 @@
 -- `cases::fill_list` is safe and ends: the list keeps its length. The measure is the number of places left.
 use mathlib.Core.Path.{_≡_}
 use borrow.Author.Needs.{needs}
-use native.Mathlib.Omega.{arith}
 use Prim.Native.Nat.{_-_}
-use lib.ListN.{length, length-set}
+use lib.ListN.{length}
 use Rattle.cases.proofs.fill_list.Statement.{statement}
 use Rattle.cases.proofs.fill_list.Tie as tie
 

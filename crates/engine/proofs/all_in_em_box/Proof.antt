@@ -1,15 +1,16 @@
 -- `engine::all_in_em_box` meets its contract. The loop's invariant: all points are in the box exactly where those before place i are, as
 -- `all` says, and those from place i on.
 use mathlib.Core.Path.{_≡_, refl, sym, ap, _∙_}
-use Prim.Native.Nat.{_+_, _-_, _*_, _≤_}
+use Prim.Native.Nat.{ℕ, _+_, _-_, _*_, _≤_}
 use mathlib.Core.Bool.{Bool, _&&_, and-true, and-assoc}
-use mathlib.Core.List.{List, []}
+use mathlib.Core.List.{List, [], _∷_}
 use native.Mathlib.Omega.{arith}
 use lib.IntN.{ℤ}
 use lib.ListN.{length, drop, drop-of-length-le}
+use Rattle.geometry.specs.declared.Point.{Point}
 use Rattle.geometry.specs.Plane.{inEmBox, allInEmBox}
 use Rattle.geometry.specs.Points.{points, pointAt}
-use Rattle.engine.proofs.Box.{box-next}
+use Rattle.geometry.proofs.PointRows.{drop-points, points-from}
 use Rattle.engine.proofs.all_in_em_box.Statement.{statement}
 use Rattle.engine.proofs.all_in_em_box.Tie as tie
 
@@ -18,6 +19,11 @@ Inv-loop list n all₀ i₀ all i = (i ≤ n) × (2 * n ≡ length list) × (all
 
 abbrev μ-loop : tie.MeasureT-loop
 μ-loop list n all₀ i₀ all i = n - i
+
+-- all from place i on are in the box exactly where point i is and all from place i + 1 on are
+box-next : (l : List ℤ) (i : ℕ) → 2 * i + 2 ≤ length l → allInEmBox (points (drop (2 * i) l)) ≡ inEmBox (pointAt l i) && allInEmBox (points (drop (2 * (i + 1)) l))
+unfolding allInEmBox
+box-next l i h = ap allInEmBox (sym (drop-points i l) ∙ points-from i l h ∙ ap {B = List Point} (λ Q. pointAt l i ∷ Q) (drop-points (i + 1) l))
 
 loop-holds : tie.Need-loop-holds Inv-loop μ-loop
 loop-holds c = (omega arith, omega (arith, c .pre), refl)

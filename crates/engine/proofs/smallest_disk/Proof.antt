@@ -1,5 +1,5 @@
 -- `engine::smallest_disk` meets its contract: each return is one of the row of checks, and the last is what the procedure and the search give.
-use mathlib.Core.Path.{_≡_, refl, sym, ap, _∙_}
+use mathlib.Core.Path.{_≡_, sym, _∙_}
 use mathlib.Core.Bool.{true}
 use mathlib.Core.List.{List}
 use native.Mathlib.Omega.{arith}

@@ -1,13 +1,13 @@
 -- `sheet::glyph` meets its contract: the tests that led to each `return` say to which end the row of checks comes.
 use mathlib.Core.Path.{_≡_, sym, ap, ap₂, _∙_, subst}
-use mathlib.Core.Bool.{Bool, true, false}
+use mathlib.Core.Bool.{true}
 use mathlib.Core.List.{List}
 use Prim.Native.Nat.{ℕ, _+_, _*_, _≤_, _<_}
 use native.Mathlib.Omega.{arith}
 use borrow.Author.Tests.{not-true, not-false}
 use lib.ListN.{length}
-use Rattle.answers.specs.Outcome.{Outcome, given}
-use Rattle.sheet.specs.Sheet.{Place, number, count, directoryEnd, pairs, follow}
+use Rattle.answers.specs.Outcome.{given}
+use Rattle.sheet.specs.Sheet.{count, directoryEnd, pairs, follow}
 use Rattle.sheet.proofs.Rows.{too-long, cut-short, pairs-broken, no-glyph, place-given}
 use Rattle.sheet.proofs.glyph.Statement.{statement}
 use Rattle.sheet.proofs.glyph.Tie as tie

@@ -1,7 +1,6 @@
 -- `sheet::in_order` meets its contract. The loop's invariant: the rule of the pairs from pair i on, after `end`, is the rule of all of them. The
 -- measure is what is left of the count.
-use mathlib.Core.Path.{_≡_, sym, ap, ap₂, _∙_, subst, subst₂}
-use mathlib.Core.Bool.{Bool}
+use mathlib.Core.Path.{_≡_, sym, ap, ap₂, _∙_, subst}
 use mathlib.Core.List.{List}
 use Prim.Native.Nat.{ℕ, _+_, _-_, _*_, _≤_, _<_}
 use native.Mathlib.Nat.{sub-zero}

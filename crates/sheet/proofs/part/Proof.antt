@@ -1,5 +1,5 @@
 -- `sheet::part` meets its contract: at each `return` the tests that led there say whether the bytes lie in the sheet.
-use mathlib.Core.Path.{_≡_, ap}
+use mathlib.Core.Path.{ap}
 use Prim.Native.Nat.{ℕ, _+_, _-_, _≤_, _<_}
 use native.Mathlib.Nat.{add-sub-cancel-left}
 use native.Mathlib.Omega.{arith}

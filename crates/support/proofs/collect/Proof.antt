@@ -19,14 +19,14 @@ use Rattle.geometry.specs.declared.Point.{Point}
 use Rattle.geometry.specs.Points.{points, pointAt, firstPoints}
 use Rattle.geometry.specs.Plane.{inEmBox}
 use Rattle.geometry.proofs.EmBox.{box-members}
-use Rattle.geometry.proofs.PointLists.{length-firstPoints, firstPoints-next}
+use Rattle.geometry.proofs.PointLists.{length-firstPoints, firstPoints-next, firstPoints-whole}
+use Rattle.geometry.proofs.PointRows.{points-some, pointAt-in}
 use Rattle.disks.specs.Smallest.{In}
 use Rattle.disks.specs.Limits.{Limits}
 use Rattle.disks.specs.Support.{insert}
 use Rattle.disks.proofs.Rising.{insert-new, insert-length}
 use Rattle.support.specs.Span.{Spanned, Spans}
 use Rattle.support.proofs.Numbers.{limits-small}
-use Rattle.support.proofs.PointRows.{points-some, pointAt-in, firstPoints-whole}
 use Rattle.support.proofs.Found.{within-limits}
 use Rattle.support.proofs.Kept.{Kept, kept-none, kept-put, kept-spanned, kept-off, spanned-more, kept-finds}
 use Rattle.support.proofs.collect.Statement.{statement}

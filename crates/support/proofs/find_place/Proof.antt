@@ -10,7 +10,7 @@ use Rattle.geometry.specs.declared.Point.{Point}
 use Rattle.geometry.specs.Points.{firstPoints}
 use Rattle.support.specs.declared.Place.the-variants.{At}
 use Rattle.support.specs.Place.{placeOf}
-use Rattle.support.proofs.PointRows.{firstPoints-from, firstPoints-end}
+use Rattle.geometry.proofs.PointRows.{firstPoints-from, firstPoints-end}
 use Rattle.support.proofs.Placing.{behind-not-before, place-here, place-there, place-later, place-end}
 use Rattle.support.proofs.find_place.Statement.{statement}
 use Rattle.support.proofs.find_place.Tie as tie

@@ -7,7 +7,8 @@ use lib.ListN.{length, drop}
 use Rattle.geometry.specs.declared.Point.{Point}
 use Rattle.geometry.specs.Points.{pointAt, firstPoints}
 use Rattle.support.specs.Place.{insertedAt}
-use Rattle.support.proofs.PointRows.{firstPoints-from, firstPoints-end, firstPoints-take, pointAt-drop, drop-next, firstPoints-put, drop-put, length-put}
+use Rattle.geometry.proofs.PointRows.{firstPoints-from, firstPoints-end, firstPoints-take, pointAt-drop, drop-next}
+use Rattle.support.proofs.PointPut.{firstPoints-put, drop-put, length-put}
 use Rattle.support.proofs.insert_at.Statement.{statement}
 use Rattle.support.proofs.insert_at.Tie as tie
 

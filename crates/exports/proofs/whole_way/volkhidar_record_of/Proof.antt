@@ -1,5 +1,5 @@
 -- `exports::volkhidar_record_of` meets its contract: a short buffer is refused first; then each case of the enclosure leads where `recordOf` says.
-use mathlib.Core.Path.{_≡_, sym, ap, _∙_}
+use mathlib.Core.Path.{sym, ap, _∙_}
 use borrow.Author.Needs.{needs}
 use Rattle.engine.specs.Engine.{outcome}
 use Rattle.exports.proofs.Way.{way-short, way-given, way-refused}

@@ -3,7 +3,6 @@ use mathlib.Core.Path.{ap, _∙_}
 use borrow.Author.Needs.{needs}
 use Rattle.record.specs.Reading.{outcome}
 use Rattle.exports.specs.declared.answer.Support.{Support}
-use Rattle.exports.specs.declared.answer.RecordAnswer.{RecordAnswer}
 use Rattle.exports.specs.Answers.{recordAnswer}
 use Rattle.exports.proofs.Known.{known-outcome}
 use Rattle.exports.proofs.writing.volkhidar_read_record.Statement.{statement}
