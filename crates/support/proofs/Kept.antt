@@ -104,9 +104,6 @@ not-after (by-y e h) = ≤-of-eq e
 same-x : (a b e c : ℤ) → pos 0 <ℤ e → a *ℤ e ≡ c → b *ℤ e ≡ c → a ≡ b
 same-x a b e c he h k = ≡-cancel (positive-not-zero he) (linear (a ∷ b ∷ e ∷ c ∷ []) (eqn (pos 1) h & eqn (negsuc 0) k) (search poly depth 30) tt)
 
-same-sum : (a b s t e c : ℤ) → pos 0 <ℤ e → (a +ℤ b) *ℤ e ≡ c → (s +ℤ t) *ℤ e ≡ c → a +ℤ b ≡ s +ℤ t
-same-sum a b s t e c he h k = same-x (a +ℤ b) (s +ℤ t) e c he h k
-
 -- of two pairs with the same sum, the one with the smaller first number has the larger second
 wider : (a b s t : ℤ) → a +ℤ b ≡ s +ℤ t → s ≤ℤ a → b ≤ℤ t
 wider a b s t e h = nonneg (a ∷ b ∷ s ∷ t ∷ []) (le h ⊞ eq (negsuc 0) e) (search poly depth 30) tt
@@ -120,7 +117,7 @@ module _ (d : Disk) (proper : 1 ≤ d .e) where
   across-x a b t = eqZ-eq ((a .x +ℤ b .x) *ℤ E) (pos 2 *ℤ d .x) (and-left (midway (a .x) (b .x) (d .e) (d .x)) (midway (a .y) (b .y) (d .e) (d .y)) t)
 
   sum-x : (a b s t : Point) → T (opposite d a b) → T (opposite d s t) → a .x +ℤ b .x ≡ s .x +ℤ t .x
-  sum-x a b s t h k = same-sum (a .x) (b .x) (s .x) (t .x) E (pos 2 *ℤ d .x) (some-positive proper) (across-x a b h) (across-x s t k)
+  sum-x a b s t h k = same-x (a .x +ℤ b .x) (s .x +ℤ t .x) E (pos 2 *ℤ d .x) (some-positive proper) (across-x a b h) (across-x s t k)
 
   -- a disk of radius 0 has one point on its boundary, at its centre
   centre-x : (a : Point) → T (onBoundaryTest d a) → d .s ≡ 0 → a .x *ℤ E ≡ d .x

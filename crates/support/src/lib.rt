@@ -147,6 +147,7 @@ struct Span {
     hi: i16,
 }
 
+// Whether x is strictly within the span.
 fn is_spanned(span: Span, x: i16) -> bool
     ensures { λ r. ⌜ r ≡ strictlyWithin span x ⌝ }
 {
