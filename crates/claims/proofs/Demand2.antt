@@ -5,7 +5,7 @@ use mathlib.Core.List.{List, [], _∷_}
 use lib.IntN.{ℤ}
 use Rattle.answers.specs.Outcome.{given}
 use Rattle.geometry.specs.declared.Point.{Point}
-use Rattle.geometry.specs.Plane.{allInEmBox}
+use Rattle.geometry.specs.EmBox.{allInEmBox}
 use Rattle.geometry.specs.Points.{points}
 use Rattle.geometry.proofs.EmBox.{box-members}
 use Rattle.disks.proofs.Minimal.{same-refl}

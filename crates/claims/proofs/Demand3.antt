@@ -16,7 +16,7 @@ use Rattle.answers.specs.Outcome.{given}
 use Rattle.integers.specs.Between.{true-test}
 use Rattle.geometry.specs.declared.Point.{Point}
 use Rattle.geometry.specs.declared.Disk.{Disk}
-use Rattle.geometry.specs.Plane.{allInEmBox}
+use Rattle.geometry.specs.EmBox.{allInEmBox}
 use Rattle.geometry.specs.Points.{points, flat}
 use Rattle.geometry.proofs.EmBox.{members-box}
 use Rattle.geometry.proofs.PointLists.{length-flat, points-of-flat}

@@ -1,7 +1,8 @@
 -- The letters of document 01 hold (specs/Letters.antt), by computing.
 use mathlib.Core.Path.{refl}
 use Rattle.integers.specs.Gcd.{gcd, steps}
-use Rattle.geometry.specs.Plane.{holds, inEmBox, allInEmBox}
+use Rattle.geometry.specs.EmBox.{allInBox, inBox, inEmBox, allInEmBox}
+use Rattle.geometry.specs.Plane.{holds}
 use Rattle.geometry.specs.Order.{before}
 use Rattle.geometry.specs.Points.{points, flat}
 use Rattle.disks.specs.Procedure.{outside, lowestTerms, diameterDisk, turnedBy, circle, boundaryDisk, tested, step, through, run}
@@ -12,7 +13,7 @@ use Rattle.record.specs.Valid.{centreInEmBox, validDisk, rising, validPoints, v
 use Rattle.claims.specs.Letters.{letters, AllHold}
 
 pub letters-hold : AllHold letters
-unfolding gcd steps holds inEmBox allInEmBox before points flat outside lowestTerms diameterDisk turnedBy circle boundaryDisk tested step through run insert sorted fronted choose sameDisk supports firstOf firstSupport encloseOf listAfter least firstFrom centreInEmBox validDisk rising validPoints valid
+unfolding gcd steps holds inBox allInBox before points flat outside lowestTerms diameterDisk turnedBy circle boundaryDisk tested step through run insert sorted fronted choose sameDisk supports firstOf firstSupport encloseOf listAfter least firstFrom centreInEmBox validDisk rising validPoints valid
 letters-hold = (
   record { answer = refl; order = refl; whole = refl },
   (

@@ -14,7 +14,7 @@ use lib.ListN.{length}
 use Rattle.answers.specs.Outcome.{given}
 use Rattle.answers.proofs.OutcomeLaws.{not-given, not-refused}
 use Rattle.geometry.specs.declared.Point.{Point}
-use Rattle.geometry.specs.Plane.{inEmBox}
+use Rattle.geometry.specs.EmBox.{inEmBox}
 use Rattle.description.specs.Description.{Line, blank, point, fault, pointsOn, byLine}
 
 abbrev pub NoFault : List Line → Type 0

@@ -14,7 +14,7 @@ use Rattle.answers.proofs.OutcomeLaws.{not-refused}
 use Rattle.geometry.specs.declared.Point.{Point}
 use Rattle.geometry.specs.declared.Disk.{Disk}
 use Rattle.integers.specs.Between.{first}
-use Rattle.geometry.specs.Plane.{allInEmBox}
+use Rattle.geometry.specs.EmBox.{allInEmBox}
 use Rattle.record.specs.Valid.{oneToThree, rising, validPoints, valid}
 use Rattle.record.specs.Bytes.{recordLength, recordBytes}
 use Rattle.record.specs.Writing.{writeOf, leftBy, bufferAfter}

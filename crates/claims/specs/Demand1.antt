@@ -19,7 +19,7 @@ use lib.ListN.{length}
 use Rattle.answers.specs.Outcome.{Outcome, given, refused}
 use Rattle.geometry.specs.declared.Point.{Point}
 use Rattle.geometry.specs.declared.Disk.{Disk}
-use Rattle.geometry.specs.Plane.{inEmBox, allInEmBox}
+use Rattle.geometry.specs.EmBox.{inEmBox, allInEmBox}
 use Rattle.geometry.specs.Points.{points}
 use Rattle.description.specs.Description as description
 use Rattle.description.specs.Description.{Line, fault, linesRead, named, loadOf}

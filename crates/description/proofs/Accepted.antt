@@ -20,7 +20,7 @@ use lib.ListN.{length, take, drop}
 use lib.Seq.{take-at, drop-at}
 use Rattle.answers.specs.Outcome.{Outcome, given, refuseIf}
 use Rattle.geometry.specs.declared.Point.{Point}
-use Rattle.geometry.specs.Plane.{inEmBox}
+use Rattle.geometry.specs.EmBox.{inEmBox}
 use Rattle.geometry.specs.Points.{points, flat, firstPoints}
 use Rattle.answers.proofs.OutcomeLaws.{not-given, given-same, not-refused}
 use Rattle.geometry.proofs.PointLists.{length-flat, points-of-flat}

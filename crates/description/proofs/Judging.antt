@@ -20,7 +20,7 @@ use lib.Seq.{take-suc-set}
 use borrow.Author.Tests.{le-leb, lt-leb}
 use Rattle.answers.specs.Outcome.{given, refused, refuseIf}
 use Rattle.geometry.specs.declared.Point.{Point}
-use Rattle.geometry.specs.Plane.{inEmBox}
+use Rattle.geometry.specs.EmBox.{inEmBox}
 use Rattle.geometry.specs.Points.{flat}
 use Rattle.description.specs.declared.Step.the-variants as Step
 use Rattle.description.specs.Description.{pieces, Line, blank, point, fault, lineOf, linesRead, pointsOn, named, byLine}

@@ -19,7 +19,7 @@ use lib.IntN.{ℤ}
 use lib.ListN.{length, take, drop}
 use Rattle.answers.specs.Outcome.{refused, numberOf}
 use Rattle.geometry.specs.declared.Point.{Point}
-use Rattle.geometry.specs.Plane.{inEmBox}
+use Rattle.geometry.specs.EmBox.{inEmBox}
 use Rattle.geometry.specs.Points.{flat}
 use Rattle.description.specs.declared.Loaded.{Loaded}
 use Rattle.description.specs.declared.Loaded.the-variants.{Points, Refused}

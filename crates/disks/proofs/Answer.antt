@@ -1,25 +1,27 @@
--- The disk of a list of points of the em box keeps document 01's limits.
+-- The disk of a list of points of a square keeps to the square's limits, so that of points of the em box keeps document 01's.
 --
---   EmBox p    == p lies in the em box, by four inequalities
---   in-box     : so it does where `inEmBox` says so
---   weight     : E of the lifted disk is at most 2,000,000
---   limits     : Limits (diskOf P), for every P of at least one point, all in the em box
-use mathlib.Core.Path.{_≡_, sym, subst}
+--   side l       == the side of the box
+--   Square l     == the box is a square, the largest E is twice its area, and the largest S/E² half of it
+--   em-square    : so it is with the em box
+--   in-square    : a point of the box, in the terms of Limits.antt
+--   weight       : E of the lifted disk is at most the largest E
+--   limits       : WithinLimits l (diskOf P), for every P of at least one point, all in the box
+use mathlib.Core.Path.{_≡_, refl, sym, subst}
 use mathlib.Core.List.{List, [], _∷_}
 use Prim.Native.Nat.{ℕ}
 use lib.Dec.{T}
-use lib.IntN.{ℤ, pos, negsuc, negℤ, _+ℤ_, _*ℤ_}
-use lib.Signed.{_≤ℤ_, _<ℤ_, leZ}
-use Rattle.integers.specs.Between.{between}
-use Rattle.integers.specs.Bounds.{and-left, and-right}
-use Rattle.integers.specs.Laws.{zero-*}
+use lib.IntN.{ℤ, pos, negsuc, negℤ, _+ℤ_, _-ℤ_, _*ℤ_}
+use lib.Signed.{_≤ℤ_, _<ℤ_}
+use Rattle.integers.specs.Between.{test-true}
 use Rattle.integers.specs.Ring.{poly}
-use Rattle.integers.specs.Order.{≤-of-eq, ≤-trans, *-pos, le-pos, nonneg, nonneg-by, positive, lt, le, eq, nn, _⊞_, _⊠_}
+use Rattle.integers.specs.Order.{*-pos, le-pos, nonneg, nonneg-by, positive, lt, le, eq, nn, _⊞_, _⊠_}
 use Rattle.geometry.specs.declared.Point.{Point}
-use Rattle.geometry.specs.Plane.{inEmBox}
+use Rattle.geometry.specs.declared.Limits.{Limits}
+use Rattle.geometry.specs.EmBox.{em, inBox}
+use Rattle.geometry.proofs.EmBox.{inside}
 use Rattle.disks.specs.Smallest.{In}
 use Rattle.disks.specs.Procedure.{diskOf}
-use Rattle.disks.specs.Limits.{Limits}
+use Rattle.disks.specs.Limits.{WithinLimits}
 use Rattle.disks.proofs.Lifted.{Lifted, squaredRadius}
 use Rattle.disks.proofs.Minimal.{none-of}
 use Rattle.disks.proofs.Limits.{Box, BoxLimits, box-limits}
@@ -47,54 +49,67 @@ square-high a g S E s e hg hs he h = nonneg-by (a ∷ g ∷ S ∷ E ∷ s ∷ e 
 no-more : (n g E : ℤ) (e : ℕ) → pos 0 <ℤ g → E ≡ g *ℤ pos e → E ≤ℤ n → pos e ≤ℤ n
 no-more n g E e hg he h = nonneg (n ∷ g ∷ E ∷ pos e ∷ []) (le h ⊞ lt hg ⊠ nn e ⊞ eq (pos 1) he) (search poly depth 30) tt
 
--- ---- the em box
+-- ---- the box
 
-abbrev pub EmBox : Point → Type 0
-EmBox p = Box (pos 0) (negsuc 249) (pos 1000) p
+abbrev pub side : Limits → ℤ
+side l = l .right -ℤ l .left
 
-pub in-box : (p : Point) → T (inEmBox p) → EmBox p
-unfolding inEmBox
-in-box p t = record {
-  left = record { le = and-left (leZ (pos 0) (p .x)) (leZ (p .x) (pos 1000)) x };
-  right = record { le = and-right (leZ (pos 0) (p .x)) (leZ (p .x) (pos 1000)) x };
-  low = record { le = and-left (leZ (negsuc 249) (p .y)) (leZ (p .y) (pos 750)) y };
-  high = record { le = and-right (leZ (negsuc 249) (p .y)) (leZ (p .y) (pos 750)) y };
-}
-  where
-    x : T (between (pos 0) (p .x) (pos 1000))
-    x = and-left (between (pos 0) (p .x) (pos 1000)) (between (negsuc 249) (p .y) (pos 750)) t
+pub record Square (l : Limits) : Type 0 where
+  pub some : pos 0 <ℤ side l
+  pub right-is : l .left +ℤ side l ≡ l .right
+  pub top-is : l .foot +ℤ side l ≡ l .top
+  pub scale-is : pos 2 *ℤ (side l *ℤ side l) ≡ pos (l .scale)
+  pub square-is : side l *ℤ side l ≡ pos 2 *ℤ pos (l .square)
 
-    y : T (between (negsuc 249) (p .y) (pos 750))
-    y = and-right (between (pos 0) (p .x) (pos 1000)) (between (negsuc 249) (p .y) (pos 750)) t
+-- the one place where the em box's figures are computed with
+pub em-square : Square em
+em-square = record { some = record { lt = tt }; right-is = refl; top-is = refl; scale-is = refl; square-is = refl }
 
-module _ (p : Point) (P : List Point) (inside : (q : Point) → In q (p ∷ P) → T (inEmBox q)) where
-  abbrev pub F : Lifted
-  F = mtf (p ∷ P) .disk
+module _ (l : Limits) (sq : Square l) where
+  abbrev InSquare : Point → Type 0
+  InSquare p = Box (l .left) (l .foot) (side l) p
 
-  boxed : (q : Point) → In q (p ∷ P) → EmBox q
-  boxed q i = in-box q (inside q i)
+  pub in-square : (p : Point) → T (inBox l p) → InSquare p
+  in-square p t =
+      let i = inside l p (test-true (inBox l p) t) in
+      record {
+        left = i .from-left;
+        right = subst (λ (z : ℤ). p .x ≤ℤ z) (sym (sq .right-is)) (i .to-right);
+        low = i .from-foot;
+        high = subst (λ (z : ℤ). p .y ≤ℤ z) (sym (sq .top-is)) (i .to-top);
+      }
 
-  pub weight : F .e ≤ℤ pos 2000000
-  weight = run-weight (pos 0) (negsuc 249) (pos 1000) thousand 3 [] (p ∷ P) (none-of EmBox) boxed .weight
-    where
-      thousand : pos 0 <ℤ pos 1000
-      thousand = positive [] (nn 999) (search poly depth 30) tt
+  module _ (p : Point) (P : List Point) (all-inside : (q : Point) → In q (p ∷ P) → T (inBox l q)) where
+    abbrev pub F : Lifted
+    F = mtf (p ∷ P) .disk
 
-  lowered-limits : Written F (lowered F) → BoxLimits (pos 0) (negsuc 249) (pos 1000) F → Limits (lowered F)
-  lowered-limits w l = record {
-    e-most = le-pos (no-more (pos 2000000) (pos (w .g)) (F .e) (lowered F .e) factor (w .e-is) weight);
-    s-most = le-pos (square-high (pos 500000) (pos (w .g)) (squaredRadius F) (F .e) (pos (lowered F .s)) (pos (lowered F .e)) (square-factor w)
-        (w .s-is) (w .e-is) (l .radius));
-    x-low = ≤-trans (≤-of-eq (sym (zero-* (pos (lowered F .e))))) (low (pos 0) (pos (w .g)) (F .cx) (F .e) (lowered F .x) (pos (lowered F .e)) factor
-        (w .x-is) (w .e-is) (l .x-low));
-    x-high = high (pos 1000) (pos (w .g)) (F .cx) (F .e) (lowered F .x) (pos (lowered F .e)) factor (w .x-is) (w .e-is) (l .x-high);
-    y-low = low (negsuc 249) (pos (w .g)) (F .cy) (F .e) (lowered F .y) (pos (lowered F .e)) factor (w .y-is) (w .e-is) (l .y-low);
-    y-high = high (pos 750) (pos (w .g)) (F .cy) (F .e) (lowered F .y) (pos (lowered F .e)) factor (w .y-is) (w .e-is) (l .y-high);
-  }
-    where
-      factor : pos 0 <ℤ pos (w .g)
-      factor = some-positive (w .g-some)
+    boxed : (q : Point) → In q (p ∷ P) → InSquare q
+    boxed q i = in-square q (all-inside q i)
 
-  pub limits : Limits (diskOf (p ∷ P))
-  limits = subst Limits (sym (diskOf-lowered p P))
-      (lowered-limits (strong-written (mtf-strong p P)) (box-limits (pos 0) (negsuc 249) (pos 1000) (mtf-strong p P) boxed))
+    pub weight : F .e ≤ℤ pos (l .scale)
+    weight = subst (λ (z : ℤ). F .e ≤ℤ z) (sq .scale-is) (run-weight (l .left) (l .foot) (side l) (sq .some) 3 [] (p ∷ P) (none-of InSquare) boxed .weight)
+
+    pub centre-limits : BoxLimits (l .left) (l .foot) (side l) F
+    centre-limits = box-limits (l .left) (l .foot) (side l) (mtf-strong p P) boxed
+
+    lowered-limits : Written F (lowered F) → WithinLimits l (lowered F)
+    lowered-limits w = record {
+      e-most = le-pos (no-more (pos (l .scale)) (pos (w .g)) (F .e) (lowered F .e) factor (w .e-is) weight);
+      s-most = le-pos (square-high (pos (l .square)) (pos (w .g)) (squaredRadius F) (F .e) (pos (lowered F .s)) (pos (lowered F .e)) (square-factor w)
+          (w .s-is) (w .e-is) (subst (λ (z : ℤ). (squaredRadius F *ℤ pos 2) ≤ℤ (z *ℤ (F .e *ℤ F .e))) (sq .square-is) (b .radius)));
+      x-low = low (l .left) (pos (w .g)) (F .cx) (F .e) (lowered F .x) (pos (lowered F .e)) factor (w .x-is) (w .e-is) (b .x-low);
+      x-high = high (l .right) (pos (w .g)) (F .cx) (F .e) (lowered F .x) (pos (lowered F .e)) factor (w .x-is) (w .e-is)
+          (subst (λ (z : ℤ). F .cx ≤ℤ (z *ℤ F .e)) (sq .right-is) (b .x-high));
+      y-low = low (l .foot) (pos (w .g)) (F .cy) (F .e) (lowered F .y) (pos (lowered F .e)) factor (w .y-is) (w .e-is) (b .y-low);
+      y-high = high (l .top) (pos (w .g)) (F .cy) (F .e) (lowered F .y) (pos (lowered F .e)) factor (w .y-is) (w .e-is)
+          (subst (λ (z : ℤ). F .cy ≤ℤ (z *ℤ F .e)) (sq .top-is) (b .y-high));
+    }
+      where
+        factor : pos 0 <ℤ pos (w .g)
+        factor = some-positive (w .g-some)
+
+        b : BoxLimits (l .left) (l .foot) (side l) F
+        b = centre-limits
+
+    pub limits : WithinLimits l (diskOf (p ∷ P))
+    limits = subst (WithinLimits l) (sym (diskOf-lowered p P)) (lowered-limits (strong-written (mtf-strong p P)))

@@ -1,16 +1,17 @@
 -- How large the numbers of an answer can be (01, "Disk and rim": "E never exceeds 2,000,000, nor S/E² 500,000. The centre is in the em box.").
 --
---   Limits d      == these limits, of the disk d
+--   WithinLimits l d   == the disk d keeps to the limits l; those of document 01 are `em` of geometry
 use Prim.Native.Nat.{_*_, _≤_}
-use lib.IntN.{pos, negsuc, _*ℤ_}
+use lib.IntN.{pos, _*ℤ_}
 use Rattle.integers.specs.Order.{_≼_}
 use Rattle.geometry.specs.declared.Disk.{Disk}
+use Rattle.geometry.specs.declared.Limits.{Limits}
 
-pub record Limits (d : Disk) : Type 0 where
-  pub e-most : d .e ≤ 2000000
-  pub s-most : d .s ≤ 500000 * (d .e * d .e)
-  -- 0 ≤ X/E ≤ 1000 and −250 ≤ Y/E ≤ 750
-  pub x-low : pos 0 ≼ d .x
-  pub x-high : d .x ≼ pos 1000 *ℤ pos (d .e)
-  pub y-low : negsuc 249 *ℤ pos (d .e) ≼ d .y
-  pub y-high : d .y ≼ pos 750 *ℤ pos (d .e)
+pub record WithinLimits (l : Limits) (d : Disk) : Type 0 where
+  pub e-most : d .e ≤ l .scale
+  pub s-most : d .s ≤ l .square * (d .e * d .e)
+  -- left ≤ X/E ≤ right and foot ≤ Y/E ≤ top
+  pub x-low : l .left *ℤ pos (d .e) ≼ d .x
+  pub x-high : d .x ≼ l .right *ℤ pos (d .e)
+  pub y-low : l .foot *ℤ pos (d .e) ≼ d .y
+  pub y-high : d .y ≼ l .top *ℤ pos (d .e)

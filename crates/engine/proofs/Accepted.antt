@@ -13,7 +13,7 @@ use lib.IntN.{ℤ}
 use lib.ListN.{length}
 use Rattle.answers.specs.Outcome.{given}
 use Rattle.answers.proofs.OutcomeLaws.{not-refused, same-given}
-use Rattle.geometry.specs.Plane.{allInEmBox}
+use Rattle.geometry.specs.EmBox.{allInEmBox}
 use Rattle.geometry.specs.Points.{points}
 use Rattle.engine.specs.Engine.{Enclosure, enclosure, encloseOf}
 

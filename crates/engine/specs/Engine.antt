@@ -14,7 +14,8 @@ use lib.ListN.{length}
 use Rattle.answers.specs.Outcome.{Outcome, given, refused, numberOf, refuseIf}
 use Rattle.geometry.specs.declared.Point.{Point}
 use Rattle.geometry.specs.declared.Disk.{Disk}
-use Rattle.geometry.specs.Plane.{allInEmBox, members}
+use Rattle.geometry.specs.EmBox.{allInEmBox}
+use Rattle.geometry.specs.Plane.{members}
 use Rattle.geometry.specs.Points.{points, flat}
 use Rattle.disks.specs.Procedure.{diskOf, testsOf, orderOf}
 use Rattle.disks.specs.Support.{firstSupport}

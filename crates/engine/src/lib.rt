@@ -5,7 +5,7 @@ use geometry::SupportSet;
 ghost use mathlib.Core.Path.{_≡_};
 ghost use Prim.Native.Nat.{_%_};
 ghost use lib.ListN.{length};
-ghost use Rattle.geometry.specs.Plane.{allInEmBox};
+ghost use Rattle.geometry.specs.EmBox.{allInEmBox};
 ghost use Rattle.geometry.specs.Points.{points};
 ghost use Rattle.engine.specs.Engine.{outcome, encloseOf, listAfter};
 

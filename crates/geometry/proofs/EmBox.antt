@@ -1,18 +1,61 @@
--- Lists of points in the em box.
+-- Points in the box of limits.
 --
+--   Inside l p   == p lies in the box, by its four inequalities
+--   inside       : so it does where the test says so
+--   point-size   : no coordinate of a point in the box is larger, in size, than the largest
 --   box-members  : each point of a list that is in the em box is
 --   members-box  : a list whose points all are is
 use mathlib.Core.Path.{_≡_, refl, sym, subst}
 use mathlib.Core.Logic.{_⊎_, inl, inr}
 use mathlib.Core.Bool.{true}
 use mathlib.Core.List.{List, [], _∷_, List·Memᴰ, List·Memᴰ·head, List·Memᴰ·tail, List·Memᴰ·cases-cons, List·Memᴰ·not-nil}
+use Prim.Native.Nat.{max, _≤_}
+use native.Mathlib.Nat.{le-trans, le-max-left, le-max-right}
 use lib.Dec.{T}
-use Rattle.integers.specs.Between.{first, rest, pass, test-true, true-test}
+use lib.IntN.{natAbs}
+use lib.Signed.{_≤ℤ_}
+use Rattle.integers.specs.Between.{between, first, rest, pass, test-true, true-test, between-most, between-low, between-high}
 use Rattle.geometry.specs.declared.Point.{Point}
-use Rattle.geometry.specs.Plane.{inEmBox, allInEmBox}
+use Rattle.geometry.specs.declared.Limits.{Limits}
+use Rattle.geometry.specs.EmBox.{inBox, allInBox, inEmBox, allInEmBox, largest}
+
+pub record Inside (l : Limits) (p : Point) : Type 0 where
+  pub from-left : l .left ≤ℤ p .x
+  pub to-right : p .x ≤ℤ l .right
+  pub from-foot : l .foot ≤ℤ p .y
+  pub to-top : p .y ≤ℤ l .top
+
+module _ (l : Limits) (p : Point) (h : inBox l p ≡ true) where
+  in-x : between (l .left) (p .x) (l .right) ≡ true
+  unfolding inBox
+  in-x = first (between (l .left) (p .x) (l .right)) (between (l .foot) (p .y) (l .top)) h
+
+  in-y : between (l .foot) (p .y) (l .top) ≡ true
+  unfolding inBox
+  in-y = rest (between (l .left) (p .x) (l .right)) (between (l .foot) (p .y) (l .top)) h
+
+  pub inside : Inside l p
+  inside = record {
+    from-left = between-low (l .left) (p .x) (l .right) in-x;
+    to-right = between-high (l .left) (p .x) (l .right) in-x;
+    from-foot = between-low (l .foot) (p .y) (l .top) in-y;
+    to-top = between-high (l .foot) (p .y) (l .top) in-y;
+  }
+
+  pub point-size : (natAbs (p .x) ≤ largest l) × (natAbs (p .y) ≤ largest l)
+  point-size =
+      let wide = max (natAbs (l .left)) (natAbs (l .right)) in
+      let high = max (natAbs (l .foot)) (natAbs (l .top)) in
+      let sides = le-max-left wide high in
+      let heights = le-max-right wide high in (
+        between-most (l .left) (p .x) (l .right) (le-trans (le-max-left (natAbs (l .left)) (natAbs (l .right))) sides)
+            (le-trans (le-max-right (natAbs (l .left)) (natAbs (l .right))) sides) in-x,
+        between-most (l .foot) (p .y) (l .top) (le-trans (le-max-left (natAbs (l .foot)) (natAbs (l .top))) heights)
+            (le-trans (le-max-right (natAbs (l .foot)) (natAbs (l .top))) heights) in-y,
+      )
 
 pub box-members : (P : List Point) → allInEmBox P ≡ true → (p : Point) → List·Memᴰ p P → T (inEmBox p)
-unfolding allInEmBox
+unfolding allInBox
 box-members [] h p i = absurd (List·Memᴰ·not-nil i)
 box-members (q ∷ P) h p i = go (λ (k : List·Memᴰ p P). box-members P (rest (inEmBox q) (allInEmBox P) h) p k) (List·Memᴰ·cases-cons i)
   where
@@ -21,6 +64,6 @@ box-members (q ∷ P) h p i = go (λ (k : List·Memᴰ p P). box-members P (rest
     go f (inr k) = f k
 
 pub members-box : (P : List Point) → ((p : Point) → List·Memᴰ p P → T (inEmBox p)) → allInEmBox P ≡ true
-unfolding allInEmBox
+unfolding allInBox
 members-box [] h = refl
 members-box (p ∷ P) h = sym (pass (test-true (inEmBox p) (h p (List·Memᴰ·head refl))) (sym (members-box P (λ q i. h q (List·Memᴰ·tail i)))))

@@ -1,3 +1,4 @@
+pub mod EmBox
 pub mod Plane
 pub mod Points
 pub mod Order

@@ -3,15 +3,12 @@
 --   distance d p    == (xE − X)² + (yE − Y)², the squared distance of p from d's centre times E²
 --   holds d p       == d holds p: the distance is at most S
 --   onBoundary d p  == p is on d's boundary (01: on the rim): the distance is S
---   inEmBox p       == p lies in the em box, x from 0 to 1000 and y from −250 to 750
---   allInEmBox ps   == every point of ps does
 --   members t       == the points of a support set (01: the answer is one corner, two or three)
-use mathlib.Core.Bool.{Bool, true, _&&_}
+use mathlib.Core.Bool.{Bool}
 use mathlib.Core.List.{List, [], _∷_}
 use mathlib.Core.Path.{_≡_}
-use lib.IntN.{ℤ, pos, negsuc, _+ℤ_, _-ℤ_, _*ℤ_}
+use lib.IntN.{ℤ, pos, _+ℤ_, _-ℤ_, _*ℤ_}
 use lib.Signed.{leZ}
-use Rattle.integers.specs.Between.{between}
 use Rattle.geometry.specs.declared.Point.{Point}
 use Rattle.geometry.specs.declared.Disk.{Disk}
 use Rattle.geometry.specs.declared.SupportSet.{SupportSet}
@@ -27,13 +24,6 @@ holds d p = leZ (distance d p) (pos (d .s))
 
 abbrev pub onBoundary : Disk → Point → Type 0
 onBoundary d p = distance d p ≡ pos (d .s)
-
-unfoldable pub inEmBox : Point → Bool
-inEmBox p = between (pos 0) (p .x) (pos 1000) && between (negsuc 249) (p .y) (pos 750)
-
-unfoldable pub allInEmBox : List Point → Bool
-allInEmBox [] = true
-allInEmBox (p ∷ ps) = inEmBox p && allInEmBox ps
 
 abbrev pub members : SupportSet → List Point
 members (One a) = a ∷ []

@@ -2,7 +2,7 @@
 ghost use mathlib.Core.Path.{_≡_};
 ghost use Prim.Native.Nat.{_+_, _*_, _≤_};
 ghost use lib.ListN.{length};
-ghost use Rattle.geometry.specs.Plane.{inEmBox};
+ghost use Rattle.geometry.specs.EmBox.{em, inBox, inEmBox};
 ghost use Rattle.geometry.specs.Points.{pointAt};
 ghost use Rattle.geometry.specs.Order.{before};
 
@@ -22,6 +22,16 @@ pub struct Disk {
     pub s: u64,
 }
 
+// The box that points lie in, x from left to right and y from foot to top, the largest E and the largest S/E².
+pub struct Limits {
+    pub left: i64,
+    pub right: i64,
+    pub foot: i64,
+    pub top: i64,
+    pub scale: u64,
+    pub square: u64,
+}
+
 // Points whose own smallest disk is that of the whole list (01: a rim set).
 pub enum SupportSet {
     One(Point),
@@ -36,14 +46,39 @@ pub fn wide(v: i16) -> i64
     v as i64
 }
 
+// Document 01's limits. Every test of a limit takes them from here.
+pub fn em_limits() -> Limits
+    ensures { λ r. ⌜ r ≡ em ⌝ }
+{
+    Limits {
+        left: 0,
+        right: 1000,
+        foot: -250,
+        top: 750,
+        scale: 2_000_000,
+        square: 500_000,
+    }
+}
+
+// Whether p lies in the box of the limits.
+pub fn in_box(l: Limits, p: Point) -> bool
+    ensures { λ r. ⌜ r ≡ inBox l p ⌝ }
+{
+    let left = l.left;
+    let right = l.right;
+    let foot = l.foot;
+    let top = l.top;
+    if integers::is_between(left, wide(p.x), right) {
+        return integers::is_between(foot, wide(p.y), top);
+    }
+    false
+}
+
 // Whether p lies in the em box.
 pub fn in_em_box(p: Point) -> bool
     ensures { λ r. ⌜ r ≡ inEmBox p ⌝ }
 {
-    if integers::is_between(0, wide(p.x), 1000) {
-        return integers::is_between(-250, wide(p.y), 750);
-    }
-    false
+    in_box(em_limits(), p)
 }
 
 // Whether p comes before q in rising order.

@@ -5,15 +5,17 @@
 --   first, rest          : a row that held, taken apart
 --   test-true, true-test : a test that holds, as `T` and as an equation
 --   below, not-below     : `ltZ a b` decides `leZ b a`
---   between-size         : a number between lo and hi is no larger than both together
+--   between-most         : a number between two of size B at most is so too
+--   between-low, between-high : it is at least the one and at most the other
 use mathlib.Core.Path.{_≡_, refl, sym, subst}
 use mathlib.Core.Bool.{Bool, true, false, _&&_, true≢false}
-use Prim.Native.Nat.{_+_, _≤_}
+use Prim.Native.Nat.{ℕ, _≤_}
+use native.Mathlib.Nat.{le-trans}
 use native.Mathlib.Omega.{arith}
 use borrow.Author.Tests.{le-leb, lt-leb, ltb-true, ltb-false, leb-true}
 use lib.Dec.{T}
 use lib.IntN.{ℤ, pos, negsuc, natAbs}
-use lib.Signed.{ltZ, leZ}
+use lib.Signed.{ltZ, leZ, _≤ℤ_}
 
 abbrev pub between : ℤ → ℤ → ℤ → Bool
 between lo z hi = leZ lo z && leZ z hi
@@ -56,11 +58,17 @@ not-below (pos a) (negsuc b) h = refl
 not-below (negsuc a) (pos b) h = absurd (true≢false h)
 not-below (negsuc a) (negsuc b) h = le-leb a b (ltb-false b a h)
 
-size : (z lo hi : ℤ) → leZ lo z ≡ true → leZ z hi ≡ true → natAbs z ≤ natAbs lo + natAbs hi
-size (pos a) lo (pos n) h k = let l : a ≤ n = leb-true a n k in omega arith
-size (pos a) lo (negsuc n) h k = absurd (true≢false (sym k))
-size (negsuc a) (pos m) hi h k = absurd (true≢false (sym h))
-size (negsuc a) (negsuc m) hi h k = let l : a ≤ m = leb-true a m h in omega arith
+most : (lo z hi : ℤ) (B : ℕ) → natAbs lo ≤ B → natAbs hi ≤ B → leZ lo z ≡ true → leZ z hi ≡ true → natAbs z ≤ B
+most lo (pos a) (pos n) B l h p q = le-trans (leb-true a n q) h
+most lo (pos a) (negsuc n) B l h p q = absurd (true≢false (sym q))
+most (pos m) (negsuc a) hi B l h p q = absurd (true≢false (sym p))
+most (negsuc m) (negsuc a) hi B l h p q = let k : a ≤ m = leb-true a m p in omega arith
 
-pub between-size : (lo z hi : ℤ) → between lo z hi ≡ true → natAbs z ≤ natAbs lo + natAbs hi
-between-size lo z hi h = size z lo hi (first (leZ lo z) (leZ z hi) h) (rest (leZ lo z) (leZ z hi) h)
+pub between-most : (lo z hi : ℤ) {B : ℕ} → natAbs lo ≤ B → natAbs hi ≤ B → between lo z hi ≡ true → natAbs z ≤ B
+between-most lo z hi {B} l h k = most lo z hi B l h (first (leZ lo z) (leZ z hi) k) (rest (leZ lo z) (leZ z hi) k)
+
+pub between-low : (lo z hi : ℤ) → between lo z hi ≡ true → lo ≤ℤ z
+between-low lo z hi h = record { le = true-test (first (leZ lo z) (leZ z hi) h) }
+
+pub between-high : (lo z hi : ℤ) → between lo z hi ≡ true → z ≤ℤ hi
+between-high lo z hi h = record { le = true-test (rest (leZ lo z) (leZ z hi) h) }

@@ -15,7 +15,7 @@ use Rattle.answers.proofs.OutcomeLaws.{given-same, not-refused}
 use Rattle.integers.specs.Between.{first, rest}
 use Rattle.geometry.specs.declared.Point.{Point}
 use Rattle.geometry.specs.declared.Disk.{Disk}
-use Rattle.geometry.specs.Plane.{inEmBox, allInEmBox}
+use Rattle.geometry.specs.EmBox.{allInBox, inEmBox, allInEmBox}
 use Rattle.geometry.specs.Order.{before}
 use Rattle.record.specs.Valid.{oneToThree, rising, validPoints, valid}
 use Rattle.record.specs.Bytes.{recordLength, diskBytes, pointsBytes, recordBytes}
@@ -54,7 +54,7 @@ module _ (d : Disk) (k : DiskBounds d) where
   read-three a b c s t u h = let r = fields-read d k a b c s t u in record { disk = r .disk; points = points-read r ∙ meant-three a b c h }
 
   read-points : (ps : List Point) → oneToThree ps ≡ true → rising ps ≡ true → allInEmBox ps ≡ true → Read (recordBytes d ps) d ps
-  unfolding rising allInEmBox
+  unfolding rising allInBox
   read-points [] n r m = absurd (true≢false (sym n))
   read-points (a ∷ []) n r m = read-one a (small a (first (inEmBox a) true m))
   read-points (a ∷ b ∷ []) n r m =

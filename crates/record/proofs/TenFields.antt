@@ -24,7 +24,7 @@ use Rattle.big_endian.proofs.ByteLists.{get-lt}
 use Rattle.big_endian.proofs.TwosLaws.{twos-lt, back-twos, twos-back}
 use Rattle.geometry.specs.declared.Point.{Point}
 use Rattle.geometry.specs.declared.Disk.{Disk}
-use Rattle.geometry.specs.Plane.{inEmBox}
+use Rattle.geometry.specs.EmBox.{inBox, inEmBox}
 use Rattle.record.specs.Bytes.{recordLength, diskBytes, pointsBytes}
 use Rattle.record.specs.Reading.{diskIn, pointIn}
 use Rattle.record.proofs.ValidLaws.{DiskBounds}
@@ -53,7 +53,7 @@ pub record Small (p : Point) : Type 0 where
   pub y-small : mag (p .y) < half 2
 
 pub small : (p : Point) → inEmBox p ≡ true → Small p
-unfolding inEmBox
+unfolding inBox
 small p h =
     let in-x = between (pos 0) (p .x) (pos 1000) in
     let in-y = between (negsuc 249) (p .y) (pos 750) in

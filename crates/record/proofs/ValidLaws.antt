@@ -23,7 +23,7 @@ use Rattle.integers.specs.LowestTerms.{common, Reduced, divides-x, divides-y, d
 use Rattle.integers.specs.Order.{_≼_}
 use Rattle.geometry.specs.declared.Point.{Point}
 use Rattle.geometry.specs.declared.Disk.{Disk}
-use Rattle.geometry.specs.Plane.{inEmBox, allInEmBox}
+use Rattle.geometry.specs.EmBox.{inBox, inEmBox, allInEmBox}
 use Rattle.record.specs.Valid.{maxE, maxSquare, scaleInLimit, centreInEmBox, squareInLimit, isLowest, validDisk, oneToThree, rising, validPoints, valid}
 use Rattle.record.proofs.Row.{both, is-true}
 
@@ -75,7 +75,7 @@ unfolding valid
 valid-points d ps h = rest (validDisk d) (validPoints ps) h
 
 pub em-box-scaled : (p : Point) (s : _) → centreInEmBox (record { x = p .x; y = p .y; e = 1; s = s }) ≡ inEmBox p
-unfolding centreInEmBox inEmBox
+unfolding centreInEmBox inBox
 em-box-scaled p s = refl
 
 -- ---- the divisor rule, by its meaning

@@ -1,7 +1,8 @@
 // Whether a record can hold a disk and a support set: one function a rule, so that each proof is of one test.
 ghost use mathlib.Core.Path.{_≡_};
 ghost use Prim.Native.Nat.{_≤_};
-ghost use Rattle.geometry.specs.Plane.{allInEmBox, members};
+ghost use Rattle.geometry.specs.EmBox.{allInEmBox};
+ghost use Rattle.geometry.specs.Plane.{members};
 ghost use Rattle.record.specs.Valid.{maxE, scaleInLimit, centreInEmBox, squareInLimit, rising, validPoints, isLowest, validDisk, valid};
 use geometry::Disk;
 use geometry::SupportSet;

@@ -20,7 +20,7 @@ use Rattle.integers.specs.Order.{≡-cancel}
 use Rattle.geometry.specs.declared.Point.{Point}
 use Rattle.geometry.specs.declared.Disk.{Disk}
 use Rattle.disks.specs.Smallest.{In, Smallest}
-use Rattle.geometry.specs.Plane.{allInEmBox}
+use Rattle.geometry.specs.EmBox.{allInEmBox}
 use Rattle.disks.specs.Limits.{Limits}
 use Rattle.disks.specs.Procedure.{diskOf}
 use Rattle.disks.specs.Support.{sorted, candidates, firstOf, firstSupport}

@@ -31,7 +31,7 @@ use Rattle.integers.specs.Ring.{poly}
 use Rattle.geometry.specs.declared.Point.{Point}
 use Rattle.geometry.specs.declared.Disk.{Disk}
 use Rattle.geometry.specs.Order.{eqZ}
-use Rattle.geometry.specs.Plane.{inEmBox}
+use Rattle.geometry.specs.EmBox.{inBox, inEmBox}
 use Rattle.geometry.proofs.Coordinates.{widened}
 use Rattle.disks.specs.Limits.{Limits}
 use Rattle.disks.proofs.Rising.{eqZ-eq, eq-eqZ}
@@ -91,11 +91,11 @@ module _ (d : Disk) (a : Limits d) where
 
   module _ (p : Point) (h : T (inEmBox p)) where
     in-x : T (between (pos 0) (p .x) (pos 1000))
-    unfolding inEmBox
+    unfolding inBox
     in-x = and-left (between (pos 0) (p .x) (pos 1000)) (between (negsuc 249) (p .y) (pos 750)) h
 
     in-y : T (between (negsuc 249) (p .y) (pos 750))
-    unfolding inEmBox
+    unfolding inBox
     in-y = and-right (between (pos 0) (p .x) (pos 1000)) (between (negsuc 249) (p .y) (pos 750)) h
 
     pub near-x : natAbs (p .x *ℤ pos (d .e) -ℤ d .x) ≤ 2000000000

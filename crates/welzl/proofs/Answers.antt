@@ -21,7 +21,7 @@ use Rattle.integers.specs.Bounds.{Within}
 use Rattle.integers.specs.Order.{le-pos, ≤-of-<, nonneg, nonneg-by, le, sq, nn, _⊞_, _⊠_, <-≤-clash, ≤-of-eq}
 use Rattle.integers.specs.Ring.{poly}
 use Rattle.geometry.specs.declared.Point.{Point}
-use Rattle.geometry.specs.Plane.{inEmBox, allInEmBox}
+use Rattle.geometry.specs.EmBox.{inEmBox, allInEmBox}
 use Rattle.geometry.specs.Points.{points, flat}
 use Rattle.geometry.proofs.EmBox.{box-members}
 use Rattle.geometry.proofs.PointLists.{firstPoints-all}

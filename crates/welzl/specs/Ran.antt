@@ -12,7 +12,7 @@ use Prim.Native.Nat.{ℕ, _*_, _%_, _≤_, _<_}
 use lib.IntN.{ℤ}
 use lib.ListN.{length, drop}
 use Rattle.geometry.specs.declared.Point.{Point}
-use Rattle.geometry.specs.Plane.{inEmBox, allInEmBox}
+use Rattle.geometry.specs.EmBox.{inEmBox, allInEmBox}
 use Rattle.geometry.specs.Points.{points, flat, firstPoints}
 use Rattle.disks.proofs.LiftedProcedure.{State, runWith}
 use Rattle.welzl.specs.declared.Boundary.{Boundary}

@@ -4,7 +4,7 @@ use mathlib.Core.Bool.{true}
 use borrow.Author.Needs.{needs}
 use borrow.Author.Tests.{not-true, not-false}
 use lib.ListN.{drop}
-use Rattle.geometry.specs.Plane.{inEmBox}
+use Rattle.geometry.specs.EmBox.{inEmBox}
 use Rattle.description.specs.declared.Scanned.the-variants as Scanned
 use Rattle.description.specs.Scan.{LineAt}
 use Rattle.description.proofs.Judging.{judge-fault, judge-outside, judge-many}

@@ -8,7 +8,7 @@ use native.Mathlib.Omega.{arith}
 use lib.IntN.{ℤ}
 use lib.ListN.{length, drop, drop-of-length-le}
 use Rattle.geometry.specs.declared.Point.{Point}
-use Rattle.geometry.specs.Plane.{inEmBox, allInEmBox}
+use Rattle.geometry.specs.EmBox.{allInBox, inEmBox, allInEmBox}
 use Rattle.geometry.specs.Points.{points, pointAt}
 use Rattle.geometry.proofs.PointRows.{drop-points, points-from}
 use Rattle.engine.proofs.all_in_em_box.Statement.{statement}
@@ -22,7 +22,7 @@ abbrev μ-loop : tie.MeasureT-loop
 
 -- all from place i on are in the box exactly where point i is and all from place i + 1 on are
 box-next : (l : List ℤ) (i : ℕ) → 2 * i + 2 ≤ length l → allInEmBox (points (drop (2 * i) l)) ≡ inEmBox (pointAt l i) && allInEmBox (points (drop (2 * (i + 1)) l))
-unfolding allInEmBox
+unfolding allInBox
 box-next l i h = ap allInEmBox (sym (drop-points i l) ∙ points-from i l h ∙ ap {B = List Point} (λ Q. pointAt l i ∷ Q) (drop-points (i + 1) l))
 
 loop-holds : tie.Need-loop-holds Inv-loop μ-loop
@@ -55,7 +55,7 @@ loop-again c =
     )
 
 returns : tie.Need-returns Inv-loop μ-loop
-unfolding allInEmBox points
+unfolding allInBox points
 returns c =
     let l = c .before .before .args .list .now in
     let end : drop (2 * c .before .loop .i) l ≡ [] = drop-of-length-le l {i = 2 * c .before .loop .i} (omega arith) in

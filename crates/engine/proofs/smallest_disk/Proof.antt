@@ -7,7 +7,8 @@ use borrow.Author.Needs.{needs}
 use denote.Ref.{now}
 use lib.IntN.{ℤ}
 use Rattle.answers.specs.Outcome.{given}
-use Rattle.geometry.specs.Plane.{allInEmBox, members}
+use Rattle.geometry.specs.EmBox.{allInEmBox}
+use Rattle.geometry.specs.Plane.{members}
 use Rattle.disks.specs.Support.{firstSupport}
 use Rattle.geometry.specs.Points.{points}
 use borrow.Author.Tests.{not-true, not-false}

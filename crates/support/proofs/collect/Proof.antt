@@ -17,7 +17,7 @@ use Rattle.integers.specs.Bounds.{and-left, and-right}
 use Rattle.integers.specs.Order.{<-≤-clash, ≤-of-<}
 use Rattle.geometry.specs.declared.Point.{Point}
 use Rattle.geometry.specs.Points.{points, pointAt, firstPoints}
-use Rattle.geometry.specs.Plane.{inEmBox}
+use Rattle.geometry.specs.EmBox.{inEmBox}
 use Rattle.geometry.proofs.EmBox.{box-members}
 use Rattle.geometry.proofs.PointLists.{length-firstPoints, firstPoints-next, firstPoints-whole}
 use Rattle.geometry.proofs.PointRows.{points-some, pointAt-in}

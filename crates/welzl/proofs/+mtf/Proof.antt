@@ -10,7 +10,7 @@ use native.Mathlib.Omega.{arith}
 use lib.ListN.{length}
 use borrow.Fn.Kinds.{In}
 use borrow.Fn.PlainCycle.{Measures, is, falls, and}
-use Rattle.geometry.specs.Plane.{inEmBox}
+use Rattle.geometry.specs.EmBox.{inEmBox}
 use Rattle.geometry.specs.Points.{pointAt}
 use Rattle.geometry.proofs.PointLists.{pointAt-firstPoints}
 use Rattle.welzl.specs.declared.Boundary.{Boundary}

@@ -3,7 +3,8 @@ use mathlib.Core.Path.{_≡_, sym, ap, _∙_}
 use borrow.Author.Needs.{needs}
 use Rattle.integers.specs.Between.{stop, pass}
 use Rattle.geometry.specs.declared.SupportSet.{SupportSet}
-use Rattle.geometry.specs.Plane.{allInEmBox, members}
+use Rattle.geometry.specs.EmBox.{allInBox, allInEmBox}
+use Rattle.geometry.specs.Plane.{members}
 use Rattle.record.proofs.Row.{last-test}
 use Rattle.record.proofs.valid.all_in_em_box.Statement.{statement}
 use Rattle.record.proofs.valid.all_in_em_box.Tie as tie
@@ -28,7 +29,7 @@ in-em-box-requires-3 : tie.Need-in-em-box-requires-3
 in-em-box-requires-3 c κs = search needs
 
 returns : tie.Need-returns
-unfolding allInEmBox
+unfolding allInBox
 returns c =
     pass (sym (c .before .before .in-em-box2 .ensures) ∙ c .before .if1 .taken) (c .in-em-box3 .ensures ∙ last-test _)
     ∙ known (c .before .before .before .before .t2 .given .1)
@@ -46,7 +47,7 @@ in-em-box-requires-6 : tie.Need-in-em-box-requires-6
 in-em-box-requires-6 c κs = search needs
 
 returns-2 : tie.Need-returns-2
-unfolding allInEmBox
+unfolding allInBox
 returns-2 c =
     let then2 = c .before .before .before in
     pass (sym (then2 .before .in-em-box4 .ensures) ∙ then2 .if2 .taken)
@@ -54,24 +55,24 @@ returns-2 c =
     ∙ known (then2 .before .before .before .t3 .given .1)
 
 returns-3 : tie.Need-returns-3
-unfolding allInEmBox
+unfolding allInBox
 returns-3 c =
     c .in-em-box .ensures ∙ last-test _ ∙ known (c .before .before .t .given .1)
 
 returns-4 : tie.Need-returns-4
-unfolding allInEmBox
+unfolding allInBox
 returns-4 c =
     stop _ (sym (c .before .in-em-box2 .ensures) ∙ c .if1 .left) ∙ known (c .before .before .before .t2 .given .1)
 
 returns-5 : tie.Need-returns-5
-unfolding allInEmBox
+unfolding allInBox
 returns-5 c =
     let then2 = c .before .before in
     pass (sym (then2 .before .in-em-box4 .ensures) ∙ then2 .if2 .taken) (stop _ (sym (c .before .in-em-box5 .ensures) ∙ c .if3 .left))
     ∙ known (then2 .before .before .before .t3 .given .1)
 
 returns-6 : tie.Need-returns-6
-unfolding allInEmBox
+unfolding allInBox
 returns-6 c =
     stop _ (sym (c .before .in-em-box4 .ensures) ∙ c .if2 .left) ∙ known (c .before .before .before .t3 .given .1)
 

@@ -1,0 +1,33 @@
+-- The em box, and how large the numbers of a disk in it can be (01, "What the engine holds", "Disk and rim"). This is the one home of these limits.
+--
+--   em               == document 01's limits: x from 0 to 1000, y from −250 to 750; E at most 2,000,000 and S/E² at most 500,000
+--   inBox l p        == p lies in the box of the limits l
+--   allInBox l ps    == every point of ps does
+--   inEmBox, allInEmBox == the same for the em box
+--   largest l        == how large a coordinate in the box can be, in size: what inner contracts ask of numbers
+use mathlib.Core.Bool.{Bool, true, _&&_}
+use mathlib.Core.List.{List, [], _∷_}
+use Prim.Native.Nat.{ℕ, max}
+use lib.IntN.{pos, negsuc, natAbs}
+use Rattle.integers.specs.Between.{between}
+use Rattle.geometry.specs.declared.Point.{Point}
+use Rattle.geometry.specs.declared.Limits.{Limits}
+
+abbrev pub em : Limits
+em = record { left = pos 0; right = pos 1000; foot = negsuc 249; top = pos 750; scale = 2_000_000; square = 500_000 }
+
+unfoldable pub inBox : Limits → Point → Bool
+inBox l p = between (l .left) (p .x) (l .right) && between (l .foot) (p .y) (l .top)
+
+unfoldable pub allInBox : Limits → List Point → Bool
+allInBox l [] = true
+allInBox l (p ∷ ps) = inBox l p && allInBox l ps
+
+abbrev pub inEmBox : Point → Bool
+inEmBox p = inBox em p
+
+abbrev pub allInEmBox : List Point → Bool
+allInEmBox ps = allInBox em ps
+
+abbrev pub largest : Limits → ℕ
+largest l = max (max (natAbs (l .left)) (natAbs (l .right))) (max (natAbs (l .foot)) (natAbs (l .top)))
