@@ -13,7 +13,7 @@ use Rattle.answers.specs.Outcome.{Outcome, given}
 use Rattle.answers.proofs.OutcomeLaws.{not-refused}
 use Rattle.geometry.specs.declared.Point.{Point}
 use Rattle.geometry.specs.declared.Disk.{Disk}
-use Rattle.integers.specs.Between.{first}
+use Rattle.integers.proofs.Tests.{first}
 use Rattle.geometry.specs.EmBox.{allInEmBox}
 use Rattle.record.specs.Valid.{oneToThree, rising, validPoints, valid}
 use Rattle.record.specs.Bytes.{recordLength, recordBytes}

@@ -14,7 +14,8 @@ use native.Mathlib.Nat.{le-trans, le-max-left, le-max-right}
 use lib.Dec.{T}
 use lib.IntN.{natAbs}
 use lib.Signed.{_≤ℤ_}
-use Rattle.integers.specs.Between.{between, first, rest, pass, test-true, true-test, between-most, between-low, between-high}
+use Rattle.integers.specs.Order.{between}
+use Rattle.integers.proofs.Tests.{first, rest, pass, test-true, true-test, between-most, between-low, between-high}
 use Rattle.geometry.specs.declared.Point.{Point}
 use Rattle.geometry.specs.declared.Limits.{Limits}
 use Rattle.geometry.specs.EmBox.{inBox, allInBox, inEmBox, allInEmBox, largest}

@@ -9,7 +9,7 @@ use mathlib.Core.Bool.{Bool, true, _&&_}
 use mathlib.Core.List.{List, [], _∷_}
 use Prim.Native.Nat.{ℕ, max}
 use lib.IntN.{pos, negsuc, natAbs}
-use Rattle.integers.specs.Between.{between}
+use Rattle.integers.specs.Order.{between}
 use Rattle.geometry.specs.declared.Point.{Point}
 use Rattle.geometry.specs.declared.Limits.{Limits}
 

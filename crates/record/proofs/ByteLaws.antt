@@ -17,7 +17,7 @@ use lib.Dec.{leb}
 use lib.ListN.{length, length-append, drop}
 use lib.Seq.{sets, sets-eq}
 use Rattle.big_endian.proofs.ByteLists.{bytesOf-length}
-use Rattle.integers.specs.Between.{rest}
+use Rattle.integers.proofs.Tests.{rest}
 use Rattle.geometry.specs.declared.Point.{Point}
 use Rattle.geometry.specs.declared.Disk.{Disk}
 use Rattle.geometry.specs.declared.SupportSet.{SupportSet}

@@ -8,10 +8,11 @@ use mathlib.Core.Bool.{Bool, true, false, true≢false, _&&_}
 use mathlib.Core.List.{[], _∷_}
 use lib.IntN.{ℤ}
 use lib.Signed.{ltZ}
-use Rattle.integers.specs.Bounds.{lt-true}
-use Rattle.integers.specs.Order.{≤-refl, <-≤-clash}
+use Rattle.integers.proofs.Bounds.{lt-true}
+use Rattle.integers.proofs.Order.{≤-refl, <-≤-clash}
 use Rattle.geometry.specs.declared.Point.{Point}
-use Rattle.geometry.specs.Order.{eqZ, before}
+use Rattle.integers.specs.Order.{eqZ}
+use Rattle.geometry.specs.Order.{before}
 use Rattle.record.specs.Bytes.{madeThree}
 use Rattle.record.specs.Reading.{same, meant}
 use Rattle.record.proofs.SamePoint.{same-eq, same-refl}

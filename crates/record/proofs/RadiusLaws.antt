@@ -13,9 +13,9 @@ use native.Mathlib.Nat.{mul-le-mul, mul-le-mul-left, mul-le-mul-right, mul-one, 
 use native.Mathlib.Omega.{arith}
 use borrow.Author.Tests.{le-leb, leb-true}
 use Rattle.geometry.specs.declared.Disk.{Disk}
-use Rattle.record.specs.Least.{IsLeast}
+use Rattle.integers.specs.Least.{IsLeast}
 use Rattle.record.specs.Radius.{reaches, wholeRadius}
-use Rattle.record.proofs.LeastLaws.{least-is, only-least}
+use Rattle.integers.proofs.LeastLaws.{least-is, only-least}
 use Rattle.record.proofs.ValidLaws.{DiskBounds}
 
 pub reaches-more : (d : Disk) {r q : ℕ} → r ≤ q → reaches d r ≡ true → reaches d q ≡ true

@@ -12,19 +12,18 @@ use lib.Signed.{leZ}
 use mir.Syntax.{w16}
 use mir.Val.{SFits, toZ, ofZ}
 use mir.Facts.{toZ-ofZ}
-use Rattle.integers.specs.Between.{first, rest}
-use Rattle.integers.specs.Bounds.{le-true}
-use Rattle.integers.specs.Order.{≤-refl, ≤-antisym}
+use Rattle.integers.proofs.Tests.{first, rest, both, test-true}
+use Rattle.integers.proofs.Bounds.{le-true}
+use Rattle.integers.proofs.Order.{≤-refl, ≤-antisym}
 use Rattle.geometry.specs.declared.Point.{Point}
-use Rattle.geometry.specs.Order.{eqZ}
+use Rattle.integers.specs.Order.{eqZ}
 use Rattle.record.specs.Reading.{same}
-use Rattle.record.proofs.Row.{both, is-true}
 
 pub eqZ-eq : (a b : ℤ) → eqZ a b ≡ true → a ≡ b
 eqZ-eq a b h = ≤-antisym (le-true a b (first (leZ a b) (leZ b a) h)) (le-true b a (rest (leZ a b) (leZ b a) h))
 
 pub eqZ-refl : (a : ℤ) → eqZ a a ≡ true
-eqZ-refl a = let h : leZ a a ≡ true = is-true (leZ a a) (≤-refl a .le) in both h h
+eqZ-refl a = let h : leZ a a ≡ true = test-true (leZ a a) (≤-refl a .le) in both h h
 
 pub same-eq : (p q : Point) → same p q ≡ true → p ≡ q
 unfolding same

@@ -16,8 +16,9 @@ use lib.ListN.{length, getD}
 use lib.Seq.{take-all}
 use lib.Signed.{mag}
 use mir.Syntax.{w16, w64}
-use Rattle.integers.specs.Between.{between, between-size, first, rest}
-use Rattle.integers.specs.Bounds.{v-abs, fits}
+use Rattle.integers.specs.Order.{between}
+use Rattle.integers.proofs.Tests.{between-size, first, rest}
+use Rattle.integers.proofs.Bounds.{v-abs, fits}
 use Rattle.big_endian.specs.Fields.{get}
 use Rattle.big_endian.specs.Twos.{half, twos, back}
 use Rattle.big_endian.proofs.ByteLists.{get-lt}

@@ -17,15 +17,15 @@ use borrow.Author.Tests.{leb-true, le-leb, eqb-true, eq-eqb}
 use lib.Dec.{leb}
 use lib.IntN.{ℤ, pos, negsuc, natAbs, _*ℤ_}
 use lib.Signed.{leZ}
-use Rattle.integers.specs.Abs.{abs-*}
-use Rattle.integers.specs.Between.{between, between-size, first, rest}
-use Rattle.integers.specs.LowestTerms.{common, Reduced, divides-x, divides-y, divides-e, common-greatest}
-use Rattle.integers.specs.Order.{_≼_}
+use Rattle.integers.proofs.Abs.{abs-*}
+use Rattle.integers.specs.Order.{between, _≼_}
+use Rattle.integers.proofs.Tests.{between-size, first, rest, both, test-true}
+use Rattle.integers.specs.Divisor.{common, Reduced}
+use Rattle.integers.proofs.LowestTerms.{divides-x, divides-y, divides-e, common-greatest}
 use Rattle.geometry.specs.declared.Point.{Point}
 use Rattle.geometry.specs.declared.Disk.{Disk}
 use Rattle.geometry.specs.EmBox.{inBox, inEmBox, allInEmBox}
 use Rattle.record.specs.Valid.{maxE, maxSquare, scaleInLimit, centreInEmBox, squareInLimit, isLowest, validDisk, oneToThree, rising, validPoints, valid}
-use Rattle.record.proofs.Row.{both, is-true}
 
 pub record DiskBounds (d : Disk) : Type 0 where
   pub e-some : 1 ≤ d .e
@@ -94,7 +94,7 @@ reduced-lowest d h =
 -- ---- what makes them valid
 
 test : (a b : ℤ) → a ≼ b → leZ a b ≡ true
-test a b h = is-true (leZ a b) (h .le)
+test a b h = test-true (leZ a b) (h .le)
 
 pub disk-valid : (d : Disk) → 1 ≤ d .e → d .e ≤ maxE → Reduced (d .x) (d .y) (d .e)
     → pos 0 ≼ d .x → d .x ≼ pos 1000 *ℤ pos (d .e) → negsuc 249 *ℤ pos (d .e) ≼ d .y → d .y ≼ pos 750 *ℤ pos (d .e)

@@ -14,7 +14,7 @@ use Rattle.answers.specs.Outcome.{Outcome, given, refused, numberOf, refuseIf}
 use Rattle.geometry.specs.declared.Point.{Point}
 use Rattle.geometry.specs.declared.Disk.{Disk}
 use Rattle.record.specs.Valid.{valid}
-use Rattle.record.specs.Least.{least}
+use Rattle.integers.specs.Least.{least}
 use Rattle.record.specs.declared.radius.Radius.{Radius}
 use Rattle.record.specs.declared.radius.Radius.the-variants.{Whole, Refused}
 

@@ -15,8 +15,8 @@ use lib.Dec.{T}
 use lib.IntN.{ℤ, pos, negsuc, _*ℤ_}
 use lib.ListN.{length}
 use lib.Signed.{_<ℤ_}
-use Rattle.integers.specs.Ring.{poly, linear, eqn, _&_}
-use Rattle.integers.specs.Order.{≡-cancel}
+use Rattle.integers.proofs.Ring.{poly, linear, eqn, _&_}
+use Rattle.integers.proofs.Order.{≡-cancel}
 use Rattle.geometry.specs.declared.Point.{Point}
 use Rattle.geometry.specs.declared.Disk.{Disk}
 use Rattle.disks.specs.Smallest.{In, Smallest}

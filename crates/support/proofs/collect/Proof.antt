@@ -13,8 +13,8 @@ use lib.Signed.{ltZ}
 use mir.Syntax.{w16}
 use mir.Val.{toZ, ofZ}
 use mir.Facts.{toZ-ofZ}
-use Rattle.integers.specs.Bounds.{and-left, and-right}
-use Rattle.integers.specs.Order.{<-≤-clash, ≤-of-<}
+use Rattle.integers.proofs.Tests.{and-left, and-right}
+use Rattle.integers.proofs.Order.{<-≤-clash, ≤-of-<}
 use Rattle.geometry.specs.declared.Point.{Point}
 use Rattle.geometry.specs.Points.{points, pointAt, firstPoints}
 use Rattle.geometry.specs.EmBox.{inEmBox}

@@ -1,11 +1,10 @@
 -- `record::all_in_em_box` meets its contract: each case's tests are the row of `allInEmBox`.
 use mathlib.Core.Path.{_≡_, sym, ap, _∙_}
 use borrow.Author.Needs.{needs}
-use Rattle.integers.specs.Between.{stop, pass}
+use Rattle.integers.proofs.Tests.{stop, pass, last-test}
 use Rattle.geometry.specs.declared.SupportSet.{SupportSet}
 use Rattle.geometry.specs.EmBox.{allInBox, allInEmBox}
 use Rattle.geometry.specs.Plane.{members}
-use Rattle.record.proofs.Row.{last-test}
 use Rattle.record.proofs.valid.all_in_em_box.Statement.{statement}
 use Rattle.record.proofs.valid.all_in_em_box.Tie as tie
 

@@ -7,8 +7,9 @@ use lib.IntN.{ℤ, pos, negsuc, natAbs, _*ℤ_}
 use mir.Syntax.{w64}
 use mir.Val.{SFits, toZ}
 use mir.Facts.{toZ-ofZ}
-use Rattle.integers.specs.Between.{between, stop, pass}
-use Rattle.integers.specs.Bounds.{Value, v-nat, v-mul, v-abs, fits, back}
+use Rattle.integers.specs.Order.{between}
+use Rattle.integers.proofs.Tests.{stop, pass}
+use Rattle.integers.proofs.Bounds.{Value, v-nat, v-mul, v-abs, fits, back}
 use Rattle.geometry.specs.declared.Disk.{Disk}
 use Rattle.record.specs.Valid.{maxE, centreInEmBox}
 use Rattle.record.proofs.valid.centre_in_em_box.Statement.{statement}

@@ -2,7 +2,7 @@
 use mathlib.Core.Path.{_≡_, sym, _∙_}
 use mathlib.Core.Bool.{true}
 use borrow.Author.Needs.{needs}
-use Rattle.integers.specs.Between.{stop, pass}
+use Rattle.integers.proofs.Tests.{stop, pass}
 use Rattle.record.specs.Valid.{scaleInLimit, isLowest, validDisk}
 use Rattle.record.proofs.ValidLaws.{scale-limits}
 use Rattle.record.proofs.valid.disk_is_valid.Statement.{statement}

@@ -1,11 +1,10 @@
 -- `record::is_rising` meets its contract: each case's tests are the row of `rising`.
 use mathlib.Core.Path.{_≡_, sym, ap, _∙_}
 use borrow.Author.Needs.{needs}
-use Rattle.integers.specs.Between.{stop, pass}
+use Rattle.integers.proofs.Tests.{stop, pass, last-test}
 use Rattle.geometry.specs.declared.SupportSet.{SupportSet}
 use Rattle.geometry.specs.Plane.{members}
 use Rattle.record.specs.Valid.{rising}
-use Rattle.record.proofs.Row.{last-test}
 use Rattle.record.proofs.valid.is_rising.Statement.{statement}
 use Rattle.record.proofs.valid.is_rising.Tie as tie
 

@@ -1,7 +1,7 @@
 -- `record::is_valid` meets its contract: the disk's rules, then the points'.
 use mathlib.Core.Path.{sym, _∙_}
 use borrow.Author.Needs.{needs}
-use Rattle.integers.specs.Between.{stop, pass}
+use Rattle.integers.proofs.Tests.{stop, pass}
 use Rattle.record.specs.Valid.{valid}
 use Rattle.record.proofs.valid.is_valid.Statement.{statement}
 use Rattle.record.proofs.valid.is_valid.Tie as tie

@@ -2,7 +2,7 @@
 use mathlib.Core.Path.{_≡_, refl, sym, _∙_}
 use mathlib.Core.Bool.{true}
 use borrow.Author.Needs.{needs}
-use Rattle.integers.specs.Between.{stop, pass}
+use Rattle.integers.proofs.Tests.{stop, pass}
 use Rattle.geometry.specs.declared.SupportSet.{SupportSet}
 use Rattle.geometry.specs.declared.SupportSet.the-variants.{One, Two, Three}
 use Rattle.geometry.specs.Plane.{members}

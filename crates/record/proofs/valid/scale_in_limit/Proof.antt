@@ -1,7 +1,7 @@
 -- `record::scale_in_limit` meets its contract: the two tests in a row.
 use mathlib.Core.Path.{refl}
 use borrow.Author.Tests.{le-leb, lt-leb}
-use Rattle.integers.specs.Between.{stop, pass}
+use Rattle.integers.proofs.Tests.{stop, pass}
 use Rattle.record.proofs.valid.scale_in_limit.Statement.{statement}
 use Rattle.record.proofs.valid.scale_in_limit.Tie as tie
 

@@ -9,7 +9,7 @@ use mathlib.Core.Logic.{inl, inr}
 use Prim.Native.Nat.{ℕ, zero, suc, _+_, _≤_, _<_}
 use native.Mathlib.Nat.{le-antisymm, le-of-suc-le-suc, lt-of-not-le, eq-or-lt-of-le, add-zero, zero-add, add-suc, suc-add}
 use native.Mathlib.Omega.{arith}
-use Rattle.record.specs.Least.{IsLeast, firstFrom, least}
+use Rattle.integers.specs.Least.{IsLeast, firstFrom, least}
 
 pub one-more : (test : ℕ → Bool) {r : ℕ} → ((k : ℕ) → k < r → test k ≡ false) → test r ≡ false → (k : ℕ) → k < suc r → test k ≡ false
 one-more test {r} below h k l = elim (eq-or-lt-of-le (le-of-suc-le-suc l)) [ inl p ↦ rw p h | inr q ↦ below k q ]

@@ -1,6 +1,9 @@
 -- Tests of order and rows of tests, for contracts that answer a Bool.
 --
---   between lo z hi      == lo ≤ z ≤ hi
+--   and-left, and-right  : the two tests of a row that holds
+--   both                 : two tests that hold, in a row
+--   last-test            : a row that ends in `true` ends in the test before it
+--   same-test            : two tests that hold in the same cases are equal
 --   stop, pass           : of a row a && b, the first test that fails decides
 --   first, rest          : a row that held, taken apart
 --   test-true, true-test : a test that holds, as `T` and as an equation
@@ -16,9 +19,7 @@ use borrow.Author.Tests.{le-leb, lt-leb, ltb-true, ltb-false, leb-true}
 use lib.Dec.{T}
 use lib.IntN.{ℤ, pos, negsuc, natAbs}
 use lib.Signed.{ltZ, leZ, _≤ℤ_}
-
-abbrev pub between : ℤ → ℤ → ℤ → Bool
-between lo z hi = leZ lo z && leZ z hi
+use Rattle.integers.specs.Order.{between}
 
 -- ---- rows of tests
 
@@ -37,6 +38,27 @@ first false b h = h
 pub rest : (a b : Bool) → a && b ≡ true → b ≡ true
 rest true b h = h
 rest false b h = absurd (true≢false (sym h))
+
+pub and-left : (a b : Bool) → T (a && b) → T a
+and-left true b t = tt
+and-left false b t = t
+
+pub and-right : (a b : Bool) → T (a && b) → T b
+and-right true b t = t
+and-right false b t = absurd t
+
+pub both : {a b : Bool} → a ≡ true → b ≡ true → a && b ≡ true
+both h k = sym (pass h (sym k))
+
+pub last-test : (b : Bool) → b ≡ b && true
+last-test true = refl
+last-test false = refl
+
+pub same-test : (a b : Bool) → (T a → T b) → (T b → T a) → a ≡ b
+same-test true true f g = refl
+same-test true false f g = absurd (f tt)
+same-test false true f g = absurd (g tt)
+same-test false false f g = refl
 
 pub test-true : (b : Bool) → T b → b ≡ true
 test-true true t = refl

@@ -1,9 +1,5 @@
 -- A triple X, Y, E of two integers and a natural number, divided by its greatest common divisor (01, "Disk and rim": the divisor rule).
 --
---   common x y e      == the greatest common divisor of x, y and e
---   over x y e g      == the triple, each number divided by g
---   lowest x y e      == the triple in lowest terms: divided by its greatest common divisor
---   Reduced x y e     == no number above 1 divides x, y and e all together
 --   divides-x, divides-y, divides-e, common-greatest   : `common` divides all three, and is the greatest that does
 --   common-pos, common-le                              : for e ≥ 1 it is from 1 to e
 --   coprime, lowest-reduced                            : a triple in lowest terms is reduced
@@ -19,22 +15,11 @@ use native.Mathlib.Nat.{dvd-trans, le-of-dvd, pos-of-dvd-of-pos, mul-dvd-mul-rig
 use mathlib.Core.List.{[], _∷_}
 use lib.IntN.{ℤ, pos, negsuc, negℤ, natAbs, _*ℤ_}
 use lib.Signed.{quotZ}
-use Rattle.integers.specs.Abs.{abs-neg}
-use Rattle.integers.specs.Gcd.{gcd, gcd-left, gcd-right, gcd-greatest}
-use Rattle.integers.specs.Ring.{poly, linear, eqn, _&_}
+use Rattle.integers.proofs.Abs.{abs-neg}
+use Rattle.integers.specs.Divisor.{gcd, Reduced, common, lowest}
+use Rattle.integers.proofs.Gcd.{gcd-left, gcd-right, gcd-greatest}
+use Rattle.integers.proofs.Ring.{poly, linear, eqn, _&_}
 use Rattle.integers.specs.declared.Triple.{Triple}
-
-abbrev pub common : ℤ → ℤ → ℕ → ℕ
-common x y e = gcd (gcd (natAbs x) (natAbs y)) e
-
-abbrev pub over : ℤ → ℤ → ℕ → ℕ → Triple
-over x y e g = record { x = quotZ x (pos g); y = quotZ y (pos g); e = e / g }
-
-abbrev pub lowest : ℤ → ℤ → ℕ → Triple
-lowest x y e = over x y e (common x y e)
-
-abbrev pub Reduced : ℤ → ℤ → ℕ → Type 0
-Reduced x y e = (g : ℕ) → g ∣ natAbs x → g ∣ natAbs y → g ∣ e → g ≡ 1
 
 -- ---- the common divisor
 
