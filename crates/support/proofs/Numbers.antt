@@ -31,9 +31,8 @@ use Rattle.integers.proofs.Order.{≤-of-eq, ≤-trans, pos-le, nn-nat, nonneg,
 use Rattle.integers.proofs.Ring.{poly}
 use Rattle.geometry.specs.declared.Point.{Point}
 use Rattle.geometry.specs.declared.Disk.{Disk}
-use Rattle.geometry.specs.EmBox.{inBox, inEmBox}
+use Rattle.geometry.specs.EmBox.{inBox, inEmBox, WithinLimits}
 use Rattle.geometry.proofs.Coordinates.{widened}
-use Rattle.disks.specs.Limits.{Limits}
 use Rattle.support.specs.Search.{midway, Small, SmallDisk}
 
 abbrev pub wide-value : (z : ℤ) {r : ℤ} → SFits w16 z → r ≡ toZ w16 (ofZ w16 z) → Value (toZ w64 (ofZ w64 r))
@@ -72,7 +71,7 @@ centre-small lo hi e c c-low c-high e-low e-high h k = within-range {B = 2000000
     (nonneg (lo ∷ hi ∷ e ∷ c ∷ []) (le c-low ⊞ le h ⊠ e-low ⊞ nn 1000 ⊠ le e-high) (search poly depth 30) tt)
     (nonneg (lo ∷ hi ∷ e ∷ c ∷ []) (le c-high ⊞ le k ⊠ e-low ⊞ nn 1000 ⊠ le e-high) (search poly depth 30) tt) .within
 
-module _ (d : Disk) (a : Limits d) where
+module _ (d : Disk) (a : WithinLimits d) where
   x-low : pos 0 *ℤ pos (d .e) ≼ d .x
   x-low = ≤-trans (≤-of-eq (zero-* (pos (d .e)))) (a .x-low)
 
