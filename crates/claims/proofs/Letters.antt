@@ -9,7 +9,7 @@ use Rattle.disks.specs.Procedure.{outside, lowestTerms, diameterDisk, turnedBy,
 use Rattle.disks.specs.Support.{insert, sorted, fronted, choose, sameDisk, supports, firstOf, firstSupport}
 use Rattle.engine.specs.Engine.{encloseOf, listAfter}
 use Rattle.integers.specs.Least.{least, firstFrom}
-use Rattle.record.specs.Valid.{centreInEmBox, validDisk, rising, validPoints, valid}
+use Rattle.validity.specs.Valid.{centreInEmBox, validDisk, rising, validPoints, valid}
 use Rattle.claims.specs.Letters.{letters, AllHold}
 
 pub letters-hold : AllHold letters

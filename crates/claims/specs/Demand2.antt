@@ -20,9 +20,9 @@ use Rattle.disks.specs.Smallest.{Smallest}
 use Rattle.disks.specs.FirstSupport.{IsFirstSupport}
 use Rattle.geometry.specs.EmBox.{WithinLimits}
 use Rattle.engine.specs.Engine.{Enclosure, encloseOf}
-use Rattle.record.specs.Bytes.{recordLength}
-use Rattle.record.specs.Writing.{writeOf, bufferAfter}
-use Rattle.record.specs.Reading.{readOf}
+use Rattle.record_writer.specs.Layout.{recordLength}
+use Rattle.record_writer.specs.Writing.{writeOf, bufferAfter}
+use Rattle.record_reader.specs.Reading.{readOf}
 
 -- of the answer e for the points P
 pub record EngineIsRight (P : List Point) (e : Enclosure) : Type 0 where
