@@ -28,7 +28,7 @@ use Rattle.disks.proofs.Lifted.{Lifted, value, squaredRadius}
 use Rattle.disks.proofs.Minimal.{Feasible, StronglyMinimal}
 use Rattle.disks.proofs.Base as B
 use Rattle.disks.proofs.Triple as C
-use Rattle.disks.proofs.Triple.{Different}
+use Rattle.point_lists.specs.Sets.{Different}
 use Rattle.disks.proofs.LiftedProcedure as L
 use Rattle.disks.proofs.Correct.{Found, found, nothing, base-found, full-found, Ran, turn-ran, inner-feasible, inner-different, feasible-front, next, run-ran, large-feasible, mtf-strong}
 use Rattle.disks.proofs.Support.{Supported, one, two, three, support}

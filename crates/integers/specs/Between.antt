@@ -1,9 +1,11 @@
 -- Tests of order and rows of tests, for contracts that answer a Bool.
 --
 --   between lo z hi      == lo ≤ z ≤ hi
+--   eqZ a b              == a and b are equal
 --   stop, pass           : of a row a && b, the first test that fails decides
---   first, rest          : a row that held, taken apart
+--   first, rest          : a row that held, taken apart; both: put together
 --   test-true, true-test : a test that holds, as `T` and as an equation
+--   same-test            : two tests are the same where each holds if the other does
 --   below, not-below     : `ltZ a b` decides `leZ b a`
 --   between-most         : a number between two of size B at most is so too
 --   between-low, between-high : it is at least the one and at most the other
@@ -19,6 +21,9 @@ use lib.Signed.{ltZ, leZ, _≤ℤ_}
 
 abbrev pub between : ℤ → ℤ → ℤ → Bool
 between lo z hi = leZ lo z && leZ z hi
+
+abbrev pub eqZ : ℤ → ℤ → Bool
+eqZ a b = leZ a b && leZ b a
 
 -- ---- rows of tests
 
@@ -38,11 +43,20 @@ pub rest : (a b : Bool) → a && b ≡ true → b ≡ true
 rest true b h = h
 rest false b h = absurd (true≢false (sym h))
 
+pub both : {a b : Bool} → a ≡ true → b ≡ true → a && b ≡ true
+both h k = sym (pass h (sym k))
+
 pub test-true : (b : Bool) → T b → b ≡ true
 test-true true t = refl
 
 pub true-test : {b : Bool} → b ≡ true → T b
 true-test e = subst T (sym e) tt
+
+pub same-test : (a b : Bool) → (T a → T b) → (T b → T a) → a ≡ b
+same-test true true f g = refl
+same-test true false f g = absurd (f tt)
+same-test false true f g = absurd (g tt)
+same-test false false f g = refl
 
 -- ---- the order by its tests
 

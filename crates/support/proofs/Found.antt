@@ -19,14 +19,17 @@ use Rattle.integers.specs.Ring.{poly, linear, eqn, _&_}
 use Rattle.integers.specs.Order.{≡-cancel}
 use Rattle.geometry.specs.declared.Point.{Point}
 use Rattle.geometry.specs.declared.Disk.{Disk}
-use Rattle.disks.specs.Smallest.{In, Smallest}
-use Rattle.geometry.specs.EmBox.{allInEmBox}
-use Rattle.disks.specs.Limits.{Limits}
+use Rattle.point_lists.specs.Sets.{In}
+use Rattle.disks.specs.Smallest.{Smallest}
+use Rattle.geometry.specs.EmBox.{em, allInEmBox}
+use Rattle.disks.specs.Limits.{WithinLimits}
 use Rattle.disks.specs.Procedure.{diskOf}
-use Rattle.disks.specs.Support.{sorted, candidates, firstOf, firstSupport}
-use Rattle.disks.specs.FirstSupport.{Rising, IsSupport, IsFirstSupport, Earlier, fewer, lexical}
+use Rattle.point_lists.specs.Rising.{sorted, Rising}
+use Rattle.disks.specs.Support.{candidates, firstOf, firstSupport}
+use Rattle.disks.specs.FirstSupport.{IsSupport, IsFirstSupport, Earlier, fewer, lexical}
 use Rattle.disks.proofs.Lifted.{Lifted, value}
-use Rattle.disks.proofs.Minimal.{none-of, also, same-refl, StronglyMinimal, strong-same}
+use Rattle.point_lists.proofs.Sets.{none-of, also, same-refl}
+use Rattle.disks.proofs.Minimal.{StronglyMinimal, strong-same}
 use Rattle.disks.proofs.Base.{Multiple, multiple-value, point-value, pairDisk, pair-first, pair-second, positive-one, positive-two, positive-not-zero}
 use Rattle.disks.proofs.LiftedProcedure.{mtf}
 use Rattle.disks.proofs.Correct.{mtf-strong}
@@ -38,14 +41,15 @@ use Rattle.disks.proofs.Own.{point-own, smallest-strong}
 use Rattle.disks.proofs.Acute.{pair-own, kind, Kind, side-bc, side-ac, side-ab, acute}
 use Rattle.disks.proofs.Support.{SupportSet, Supported, one, two, three, support}
 use Rattle.disks.proofs.OneWriting.{smallest-same}
-use Rattle.disks.proofs.Rising.{sorted-rises, sorted-same, sorted-length}
-use Rattle.disks.proofs.Answer.{limits}
+use Rattle.point_lists.proofs.Rising.{sorted-rises, sorted-same, sorted-length}
+use Rattle.disks.proofs.Answer.{em-square, limits}
 use Rattle.disks.proofs.Choose.{Among}
 use Rattle.disks.proofs.First.{Passes, first-passes, Candidate, candidate, a-candidate, candidates-earlier, first-support, first-unique}
-use Rattle.support.specs.Search.{boundaryOf, fits, firstFit}
+use Rattle.support.proofs.Boundary.{boundaryOf, boundary-in, in-boundary}
+use Rattle.support_tests.specs.Tests.{fits}
+use Rattle.support_search.specs.Search.{firstFit}
 use Rattle.geometry.proofs.EmBox.{box-members}
-use Rattle.support.proofs.Boundary.{boundary-in, in-boundary}
-use Rattle.support.proofs.SetTests.{on-value, value-on, one-strong, strong-one, two-strong, strong-two, three-strong, acute-three}
+use Rattle.support_tests.proofs.SetTests.{on-value, value-on, one-strong, strong-one, two-strong, strong-two, three-strong, acute-three}
 
 -- ---- a set that passes
 
@@ -251,5 +255,5 @@ module _ (P : List Point) (some : 1 ≤ length P) (d : Disk) (is : d ≡ diskOf 
   pub e-some : 1 ≤ d .e
   e-some = by-point (λ d P. 1 ≤ d .e) (λ p P. written-some (proper p P) (w p P))
 
-  pub within-limits : allInEmBox P ≡ true → Limits d
-  within-limits = by-point (λ d P. allInEmBox P ≡ true → Limits d) (λ p P boxed. limits p P (box-members (p ∷ P) boxed))
+  pub within-limits : allInEmBox P ≡ true → WithinLimits em d
+  within-limits = by-point (λ d P. allInEmBox P ≡ true → WithinLimits em d) (λ p P boxed. limits em em-square p P (box-members (p ∷ P) boxed))

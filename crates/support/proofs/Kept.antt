@@ -1,9 +1,7 @@
 -- The points that `collect` keeps: boundary points with a spanned x can be left out.
 --
 --   Kept d P Q          == Q rises, its points are points of P on d's boundary, and the others of these are spanned by points of Q
---   across-spans, opposite-swap : what two opposite points span, whichever comes first
 --   kept-none, kept-put, kept-spanned, kept-off : at the start, with a point put in, and with one left out
---   spanned-more        : what is spanned stays so with a point put in
 --   kept-finds          : the first set of Q that passes its test is the first support set of P
 use mathlib.Core.Path.{_≡_, sym, _∙_, ap, ap₂, subst}
 use mathlib.Core.Logic.{_⊎_, inl, inr}
@@ -15,27 +13,32 @@ use lib.Dec.{T, eqb→eq}
 use lib.IntN.{ℤ, pos, negsuc, _+ℤ_, _-ℤ_, _*ℤ_}
 use lib.ListN.{length}
 use lib.Signed.{_<ℤ_, _≤ℤ_}
-use Rattle.integers.specs.Bounds.{and-left}
+use Rattle.integers.specs.Bounds.{and-left, eqZ→eq}
 use Rattle.integers.specs.Laws.{+-comm, eq-of-sub}
 use Rattle.integers.specs.Ring.{poly, linear, eqn, _&_}
 use Rattle.integers.specs.Order.{≤-of-eq, ≤-of-<, <-≤-clash, <-trans, ≡-cancel, sum-squares-zero, nonneg, le, eq, _⊞_}
 use Rattle.geometry.specs.declared.Point.{Point}
 use Rattle.geometry.specs.declared.Disk.{Disk}
 use Rattle.geometry.specs.Plane.{distance}
-use Rattle.geometry.specs.Order.{before, eqZ}
-use Rattle.disks.specs.Smallest.{In}
+use Rattle.geometry.specs.Order.{before}
+use Rattle.integers.specs.Between.{eqZ}
+use Rattle.point_lists.specs.Sets.{In}
 use Rattle.disks.specs.Procedure.{diskOf}
-use Rattle.disks.specs.Support.{insert, sorted, candidates, firstSupport}
-use Rattle.disks.specs.FirstSupport.{Rising, Earlier, fewer, lexical, here, there}
-use Rattle.disks.proofs.Minimal.{none-of, also}
+use Rattle.point_lists.specs.Rising.{insert, sorted, Rising}
+use Rattle.disks.specs.Support.{candidates, firstSupport}
+use Rattle.disks.specs.FirstSupport.{Earlier, fewer, lexical, here, there}
+use Rattle.point_lists.proofs.Sets.{none-of, also}
 use Rattle.disks.proofs.Base.{positive-not-zero}
 use Rattle.disks.proofs.StrongSmallest.{some-positive}
-use Rattle.disks.proofs.Rising.{ByCoordinates, by-x, by-y, by-coordinates, is-before, eqZ-eq, insert-in, insert-new, insert-old, insert-rises, sorted-rises, sorted-same}
+use Rattle.point_lists.proofs.Order.{ByCoordinates, by-x, by-y, by-coordinates, is-before}
+use Rattle.point_lists.proofs.Rising.{insert-in, insert-new, insert-old, insert-rises, sorted-rises, sorted-same}
 use Rattle.disks.proofs.Choose.{Among}
 use Rattle.disks.proofs.First.{Passes, first-passes, Candidate, candidate, a-candidate, candidates-earlier, earlier-asym}
-use Rattle.support.specs.Search.{onBoundaryTest, boundaryOf, midway, opposite, fits, firstFit}
-use Rattle.support.specs.Span.{Spanned}
-use Rattle.support.proofs.Boundary.{boundary-in, in-boundary}
+use Rattle.support_tests.specs.Tests.{onBoundaryTest, midway, opposite, fits}
+use Rattle.support.proofs.Boundary.{boundaryOf, boundary-in, in-boundary}
+use Rattle.support_search.specs.Search.{firstFit}
+use Rattle.support_span.specs.Span.{Spanned}
+use Rattle.support_span.proofs.Spans.{spanned-more}
 use Rattle.support.proofs.Found.{search-finds, search-passes, e-some}
 
 pub record Kept (d : Disk) (P Q : List Point) : Type 0 where
@@ -43,22 +46,10 @@ pub record Kept (d : Disk) (P Q : List Point) : Type 0 where
   pub inside : (x : Point) → In x Q → In x P × T (onBoundaryTest d x)
   pub covered : (x : Point) → In x P → T (onBoundaryTest d x) → In x Q ⊎ Spanned d Q (x .x)
 
--- ---- what two opposite points span
-
-pub across-spans : (d : Disk) (Q : List Point) (a b : Point) → In a Q → In b Q → opposite d a b ≡ true → {lo hi : ℤ} → lo ≡ a .x → hi ≡ b .x → (z : ℤ) → lo <ℤ z → z <ℤ hi → Spanned d Q z
-across-spans d Q a b i j o e f z h k = record { a = a; b = b; a-in = i; b-in = j; across = subst T (sym o) tt; left = subst (λ (y : ℤ). y <ℤ z) e h; right = subst (λ (y : ℤ). z <ℤ y) f k }
-
-pub opposite-swap : (d : Disk) (a b : Point) → opposite d a b ≡ opposite d b a
-unfolding opposite midway
-opposite-swap d a b = ap₂ (λ (x y : ℤ). eqZ (x *ℤ pos (d .e)) (pos 2 *ℤ d .x) && eqZ (y *ℤ pos (d .e)) (pos 2 *ℤ d .y)) (+-comm (a .x) (b .x)) (+-comm (a .y) (b .y))
-
 -- ---- one point more
 
 pub kept-none : (d : Disk) → Kept d [] []
 kept-none d = record { rises = tt; inside = λ x i. absurd (List·Memᴰ·not-nil i); covered = λ x i t. inl i }
-
-pub spanned-more : (d : Disk) (Q : List Point) (p : Point) (z : ℤ) → Spanned d Q z → Spanned d (insert p Q) z
-spanned-more d Q p z s = record { a = s .a; b = s .b; a-in = insert-old p Q (s .a-in); b-in = insert-old p Q (s .b-in); across = s .across; left = s .left; right = s .right }
 
 module _ (d : Disk) (P Q : List Point) (p : Point) (k : Kept d P Q) where
   earlier : {x : Point} → In x P × T (onBoundaryTest d x) → In x (P ++ (p ∷ [])) × T (onBoundaryTest d x)
@@ -114,7 +105,7 @@ module _ (d : Disk) (proper : 1 ≤ d .e) where
 
   across-x : (a b : Point) → T (opposite d a b) → (a .x +ℤ b .x) *ℤ E ≡ pos 2 *ℤ d .x
   unfolding opposite midway
-  across-x a b t = eqZ-eq ((a .x +ℤ b .x) *ℤ E) (pos 2 *ℤ d .x) (and-left (midway (a .x) (b .x) (d .e) (d .x)) (midway (a .y) (b .y) (d .e) (d .y)) t)
+  across-x a b t = eqZ→eq ((a .x +ℤ b .x) *ℤ E) (pos 2 *ℤ d .x) (and-left (midway (a .x) (b .x) (d .e) (d .x)) (midway (a .y) (b .y) (d .e) (d .y)) t)
 
   sum-x : (a b s t : Point) → T (opposite d a b) → T (opposite d s t) → a .x +ℤ b .x ≡ s .x +ℤ t .x
   sum-x a b s t h k = same-x (a .x +ℤ b .x) (s .x +ℤ t .x) E (pos 2 *ℤ d .x) (some-positive proper) (across-x a b h) (across-x s t k)
@@ -122,7 +113,7 @@ module _ (d : Disk) (proper : 1 ≤ d .e) where
   -- a disk of radius 0 has one point on its boundary, at its centre
   centre-x : (a : Point) → T (onBoundaryTest d a) → d .s ≡ 0 → a .x *ℤ E ≡ d .x
   unfolding onBoundaryTest
-  centre-x a t z = eq-of-sub (a .x *ℤ E) (d .x) (sum-squares-zero (a .x *ℤ E -ℤ d .x) (a .y *ℤ E -ℤ d .y) (eqZ-eq (distance d a) (pos (d .s)) t ∙ ap pos z) .0)
+  centre-x a t z = eq-of-sub (a .x *ℤ E) (d .x) (sum-squares-zero (a .x *ℤ E -ℤ d .x) (a .y *ℤ E -ℤ d .y) (eqZ→eq (distance d a) (pos (d .s)) t ∙ ap pos z) .0)
 
   -- ---- a set that comes before a pair of opposite points has no point strictly between them
 

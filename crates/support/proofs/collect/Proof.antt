@@ -17,18 +17,19 @@ use Rattle.integers.specs.Bounds.{and-left, and-right}
 use Rattle.integers.specs.Order.{<-≤-clash, ≤-of-<}
 use Rattle.geometry.specs.declared.Point.{Point}
 use Rattle.geometry.specs.Points.{points, pointAt, firstPoints}
-use Rattle.geometry.specs.EmBox.{inEmBox}
+use Rattle.geometry.specs.EmBox.{em, inEmBox}
 use Rattle.geometry.proofs.EmBox.{box-members}
 use Rattle.geometry.proofs.PointLists.{length-firstPoints, firstPoints-next, firstPoints-whole}
 use Rattle.geometry.proofs.PointRows.{points-some, pointAt-in}
-use Rattle.disks.specs.Smallest.{In}
-use Rattle.disks.specs.Limits.{Limits}
-use Rattle.disks.specs.Support.{insert}
-use Rattle.disks.proofs.Rising.{insert-new, insert-length}
-use Rattle.support.specs.Span.{Spanned, Spans}
-use Rattle.support.proofs.Numbers.{limits-small}
+use Rattle.point_lists.specs.Sets.{In}
+use Rattle.disks.specs.Limits.{WithinLimits}
+use Rattle.point_lists.specs.Rising.{insert}
+use Rattle.point_lists.proofs.Rising.{insert-new, insert-length}
+use Rattle.support_span.specs.Span.{Spanned, Spans}
+use Rattle.support_tests.proofs.Numbers.{limits-small}
 use Rattle.support.proofs.Found.{within-limits}
-use Rattle.support.proofs.Kept.{Kept, kept-none, kept-put, kept-spanned, kept-off, spanned-more, kept-finds}
+use Rattle.support.proofs.Kept.{Kept, kept-none, kept-put, kept-spanned, kept-off, kept-finds}
+use Rattle.support_span.proofs.Spans.{spanned-more}
 use Rattle.support.proofs.collect.Statement.{statement}
 use Rattle.support.proofs.collect.Tie as tie
 
@@ -39,7 +40,7 @@ Inv-loop list disk out₀ m₀ span₀ n i₀ out m span i =
 abbrev μ-loop : tie.MeasureT-loop
 μ-loop list disk out₀ m₀ span₀ n i₀ out m span i = length list / 2 - i
 
-in-limits : (s : tie.Start Inv-loop μ-loop) → Limits (s .args .disk)
+in-limits : (s : tie.Start Inv-loop μ-loop) → WithinLimits em (s .args .disk)
 in-limits s = within-limits (points (s .args .list .now)) (points-some (s .args .list .now) (s .pre .0 .some)) (s .args .disk) (s .pre .0 .smallest) (s .pre .0 .boxed)
 
 -- the point that was read, behind those that were looked at
