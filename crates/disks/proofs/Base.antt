@@ -13,8 +13,8 @@ use lib.Signed.{_≤ℤ_, _<ℤ_}
 use Rattle.integers.specs.Ring.{ring, poly, linear, eqn, _&_}
 use Rattle.integers.specs.Order.{≤-of-eq, ≤-of-<, positive, nonneg-by, le, eq, nn, _⊞_, _⊠_, <-≤-clash, ≡-cancel, lt}
 use Rattle.geometry.specs.declared.Point.{Point}
-use Rattle.disks.proofs.Lifted.{Lifted, value, gap}
 use Rattle.point_lists.proofs.Sets.{none-of, also}
+use Rattle.disks.proofs.Lifted.{Lifted, value, gap}
 use Rattle.disks.proofs.Minimal.{StronglyMinimal}
 
 -- ---- one point

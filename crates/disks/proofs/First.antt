@@ -17,17 +17,19 @@ use native.Mathlib.Omega.{arith}
 use lib.Dec.{T, eqb, eqb→eq, eqb-refl}
 use lib.ListN.{length}
 use Rattle.integers.specs.Bounds.{and-left, and-right, and-both, eqZ→eq, eq→eqZ}
+use Rattle.integers.specs.Between.{eqZ}
 use Rattle.geometry.specs.declared.Point.{Point}
 use Rattle.geometry.specs.declared.Disk.{Disk}
 use Rattle.point_lists.specs.Sets.{In, Same}
+use Rattle.point_lists.specs.Rising.{sorted, Rising}
+use Rattle.point_lists.proofs.Sets.{same-refl, same-sym}
+use Rattle.point_lists.proofs.Order.{before-trans, before-not-equal}
+use Rattle.point_lists.proofs.Rising.{sorted-rises, sorted-same, sorted-length}
 use Rattle.disks.specs.Smallest.{Smallest}
 use Rattle.disks.specs.Procedure.{diskOf}
-use Rattle.integers.specs.Between.{eqZ}
-use Rattle.point_lists.specs.Rising.{sorted, Rising}
 use Rattle.disks.specs.Support.{choose, sameDisk, supports, firstOf, firstSupport}
 pub use Rattle.disks.specs.Support.{candidates}
 use Rattle.disks.specs.FirstSupport.{IsSupport, Lexical, here, there, Earlier, fewer, lexical, IsFirstSupport}
-use Rattle.point_lists.proofs.Sets.{same-refl, same-sym}
 use Rattle.disks.proofs.Minimal.{strong-same}
 use Rattle.disks.proofs.LiftedProcedure.{mtf}
 use Rattle.disks.proofs.Correct.{mtf-strong}
@@ -36,8 +38,6 @@ use Rattle.disks.proofs.Bridge.{strong-written, diskOf-lowered}
 use Rattle.disks.proofs.StrongSmallest.{strong-smallest}
 use Rattle.disks.proofs.OneWriting.{smallest-same}
 use Rattle.disks.proofs.Welzl.{smallest}
-use Rattle.point_lists.proofs.Order.{before-trans, before-not-equal}
-use Rattle.point_lists.proofs.Rising.{sorted-rises, sorted-same, sorted-length}
 use Rattle.disks.proofs.Choose.{Among, choose-length, choose-in, choose-rises, choose-all, Later, later-append, choose-lexical}
 
 -- ---- the order of sets

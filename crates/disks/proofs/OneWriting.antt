@@ -15,8 +15,8 @@ use Rattle.geometry.specs.declared.Point.{Point}
 use Rattle.geometry.specs.declared.Disk.{Disk}
 use Rattle.geometry.specs.Plane.{distance, holds}
 use Rattle.point_lists.specs.Sets.{Same}
-use Rattle.disks.specs.Smallest.{RationalDisk, Fits, SmallestWith}
 use Rattle.point_lists.proofs.Sets.{same-sym}
+use Rattle.disks.specs.Smallest.{RationalDisk, Fits, SmallestWith}
 use Rattle.disks.proofs.Base.{positive-not-zero}
 use Rattle.disks.proofs.StrongSmallest.{some-positive}
 

@@ -18,8 +18,8 @@ use Rattle.integers.specs.Ring.{ring, poly, linear, eqn, _&_}
 use Rattle.integers.specs.Order.{≤-of-eq, positive, lt, nn, <-≤-clash, Compared, less, same, more, compared, sum-squares-zero}
 use Rattle.geometry.specs.declared.Point.{Point}
 use Rattle.point_lists.specs.Sets.{Different, In}
-use Rattle.disks.proofs.Lifted.{Lifted, value}
 use Rattle.point_lists.proofs.Sets.{none-of, also, point-path}
+use Rattle.disks.proofs.Lifted.{Lifted, value}
 use Rattle.disks.proofs.Minimal.{Feasible, StronglyMinimal}
 use Rattle.disks.proofs.Base.{Multiple, multiple-value, multiple-no-gap, holds-by, positive-not-zero}
 

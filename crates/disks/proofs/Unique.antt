@@ -11,8 +11,8 @@ use Rattle.integers.specs.Laws.{eq-of-sub}
 use Rattle.integers.specs.Ring.{ring, poly, linear, eqn, _&_}
 use Rattle.integers.specs.Order.{≤-of-<, ≤-antisym, nonneg, positive, nonneg-by, le, lt, eq, sq, nn, _⊞_, _⊠_, sum-squares-zero, ≡-cancel}
 use Rattle.geometry.specs.declared.Point.{Point}
-use Rattle.disks.proofs.Lifted.{Lifted, value, gap, combine, apart-x, apart-y, gap-both, gap-self, value-combine, gap-combine}
 use Rattle.point_lists.proofs.Sets.{also}
+use Rattle.disks.proofs.Lifted.{Lifted, value, gap, combine, apart-x, apart-y, gap-both, gap-self, value-combine, gap-combine}
 use Rattle.disks.proofs.Minimal.{Feasible, StronglyMinimal}
 use Rattle.disks.proofs.Base.{Multiple, multiple-value, holds-by, positive-not-zero, positive-two}
 

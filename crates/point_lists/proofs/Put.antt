@@ -25,7 +25,8 @@ module _ (l : List ℤ) (i : ℕ) (p : Point) where
   firstPoints-put h =
       let x-is : getD (putAt l i p) (2 * i) (pos 0) ≡ p .x =
       getD-set-other (set l (2 * i) (p .x)) (2 * i + 1) (2 * i) (p .y) (pos 0) (omega arith) ∙ getD-set-same l (2 * i) (p .x) (pos 0) (omega arith) in
-      let y-is : getD (putAt l i p) (2 * i + 1) (pos 0) ≡ p .y = getD-set-same (set l (2 * i) (p .x)) (2 * i + 1) (p .y) (pos 0) (simp length-set (omega arith)) in
+      let y-is : getD (putAt l i p) (2 * i + 1) (pos 0) ≡ p .y = getD-set-same (set l (2 * i) (p .x)) (2 * i + 1) (p .y) (pos 0)
+      (simp length-set (omega arith)) in
       let last : pointAt (putAt l i p) i ≡ p = λ j. record { x = x-is j; y = y-is j } in
       let kept : take (2 * i) (putAt l i p) ≡ take (2 * i) l =
       take-set-le (2 * i) (set l (2 * i) (p .x)) (2 * i + 1) (p .y) (omega arith) ∙ take-set-le (2 * i) l (2 * i) (p .x) (omega arith) in

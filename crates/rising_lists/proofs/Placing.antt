@@ -62,7 +62,11 @@ placed p (q ∷ Q) j k e = go (before p q) (before q p) refl refl (placed p Q (j
         let here : placeOf p (q ∷ Q) j ≡ placeOf p Q (j + 1) = place-later p q Q j f g in
         let l : Placed p Q (j + 1) k = later (cc) in
         let next : k - j ≡ suc (k - (j + 1)) = omega (arith, l .low) in
-        record { low = omega (arith, l .low); fit = omega (arith, l .low, l .fit); is = insert-behind p q Q f g ∙ rw next (ap {B = List Point} (λ r. q ∷ r) (l .is)) }
+        record {
+          low = omega (arith, l .low);
+          fit = omega (arith, l .low, l .fit);
+          is = insert-behind p q Q f g ∙ rw next (ap {B = List Point} (λ r. q ∷ r) (l .is));
+        }
 
 pub there : (p : Point) (Q : List Point) (j : ℕ) → placeOf p Q j ≡ There → insert p Q ≡ Q
 unfolding placeOf insert

@@ -38,7 +38,8 @@ module _ (d : Disk) where
       later : In x P × T (onBoundaryTest d x) → In x (q ∷ P) × T (onBoundaryTest d x)
       later h = (List·Memᴰ·tail (h .0), h .1)
 
-      here : onBoundaryTest d q ≡ true → (In x (boundaryOf d P) → In x P × T (onBoundaryTest d x)) → (x ≡ q) ⊎ In x (boundaryOf d P) → In x (q ∷ P) × T (onBoundaryTest d x)
+      here : onBoundaryTest d q ≡ true → (In x (boundaryOf d P) → In x P × T (onBoundaryTest d x)) → (x ≡ q) ⊎ In x (boundaryOf d P)
+          → In x (q ∷ P) × T (onBoundaryTest d x)
       here e f (inl k) = (List·Memᴰ·head k, subst T (sym (ap (onBoundaryTest d) k ∙ e)) tt)
       here e f (inr j) = later (f j)
 

@@ -127,7 +127,8 @@ module _ (f : List Point → Bool) (Q : List Point) where
       unfolding choose
       triples-with-at e =
           ap (λ (R : List Point). firstOf f (fronted p (choose 2 R) ++ choose 3 (drop (i + 1) Q))) e
-          ∙ ap (λ (cs : List (List Point)). firstOf f (cs ++ choose 3 (drop (i + 1) Q))) (fronted-append p (fronted q (choose 1 (drop (j + 1) Q))) (choose 2 (drop (j + 1) Q)))
+          ∙ ap (λ (cs : List (List Point)). firstOf f (cs ++ choose 3 (drop (i + 1) Q)))
+          (fronted-append p (fronted q (choose 1 (drop (j + 1) Q))) (choose 2 (drop (j + 1) Q)))
 
       module _ (r : Point) (k : ℕ) (e : drop k Q ≡ r ∷ drop (k + 1) Q) where
         abbrev behind : List (List Point)
@@ -135,7 +136,8 @@ module _ (f : List Point → Bool) (Q : List Point) where
 
         next-triple : triplesOf p q i j k ≡ firstOf f ((p ∷ q ∷ r ∷ []) ∷ behind)
         unfolding choose fronted
-        next-triple = ap (λ (R : List Point). firstOf f ((fronted p (fronted q (choose 1 R)) ++ fronted p (choose 2 (drop (j + 1) Q))) ++ choose 3 (drop (i + 1) Q))) e
+        next-triple = ap
+            (λ (R : List Point). firstOf f ((fronted p (fronted q (choose 1 R)) ++ fronted p (choose 2 (drop (j + 1) Q))) ++ choose 3 (drop (i + 1) Q))) e
 
         pub triple-hit : f (p ∷ q ∷ r ∷ []) ≡ true → triplesOf p q i j k ≡ p ∷ q ∷ r ∷ []
         triple-hit h = next-triple ∙ first-yes f (p ∷ q ∷ r ∷ []) behind h
@@ -145,7 +147,8 @@ module _ (f : List Point → Bool) (Q : List Point) where
 
       pub triples-of-end : (k : ℕ) → drop k Q ≡ [] → triplesOf p q i j k ≡ triplesWith p i (j + 1)
       unfolding choose fronted
-      triples-of-end k e = ap (λ (R : List Point). firstOf f ((fronted p (fronted q (choose 1 R)) ++ fronted p (choose 2 (drop (j + 1) Q))) ++ choose 3 (drop (i + 1) Q))) e
+      triples-of-end k e = ap
+          (λ (R : List Point). firstOf f ((fronted p (fronted q (choose 1 R)) ++ fronted p (choose 2 (drop (j + 1) Q))) ++ choose 3 (drop (i + 1) Q))) e
 
     pub triples-with-end : (j : ℕ) → drop j Q ≡ [] → triplesWith p i j ≡ triplesFrom (i + 1)
     unfolding choose fronted

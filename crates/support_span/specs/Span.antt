@@ -11,8 +11,8 @@ use lib.Signed.{ltZ, _<ℤ_}
 use Rattle.geometry.specs.declared.Point.{Point}
 use Rattle.geometry.specs.declared.Disk.{Disk}
 use Rattle.point_lists.specs.Sets.{In}
-use Rattle.support_span.specs.declared.Span.{Span}
 use Rattle.support_tests.specs.Tests.{opposite}
+use Rattle.support_span.specs.declared.Span.{Span}
 
 pub record Spanned (d : Disk) (Q : List Point) (z : ℤ) : Type 0 where
   pub a : Point

@@ -32,7 +32,8 @@ scaled : (z e r g E R : ℤ) → E ≡ g *ℤ e → R ≡ g *ℤ r → z *ℤ e 
 scaled z e r g E R p q h = linear (z ∷ e ∷ r ∷ g ∷ E ∷ R ∷ []) (eqn z p & eqn (negsuc 0) q & eqn g h) (search poly depth 30) tt
 
 unscaled : (z e r g E R : ℤ) → pos 0 <ℤ g → E ≡ g *ℤ e → R ≡ g *ℤ r → z *ℤ E ≡ R → z *ℤ e ≡ r
-unscaled z e r g E R hg p q h = ≡-cancel (positive-not-zero hg) (linear (z ∷ e ∷ r ∷ g ∷ E ∷ R ∷ []) (eqn (negsuc 0 *ℤ z) p & eqn (pos 1) q & eqn (pos 1) h) (search poly depth 30) tt)
+unscaled z e r g E R hg p q h = ≡-cancel (positive-not-zero hg)
+    (linear (z ∷ e ∷ r ∷ g ∷ E ∷ R ∷ []) (eqn (negsuc 0 *ℤ z) p & eqn (pos 1) q & eqn (pos 1) h) (search poly depth 30) tt)
 
 twice-scaled : (g x X : ℤ) → X ≡ g *ℤ x → pos 2 *ℤ X ≡ g *ℤ (pos 2 *ℤ x)
 twice-scaled g x X h = linear (g ∷ x ∷ X ∷ []) (eqn (pos 2) h) (search poly depth 30) tt
@@ -100,15 +101,21 @@ module _ {F : Lifted} {d : Disk} (proper : pos 0 <ℤ F .e) (w : Written F d) wh
     pub two-strong : T (fits d (a ∷ b ∷ [])) → StronglyMinimal (a ∷ b ∷ []) [] F
     unfolding fits opposite midway
     two-strong t = two-test F proper a b ha hb .1 (
-      scaled (a .x +ℤ b .x) (pos (d .e)) (pos 2 *ℤ d .x) g (F .e) (pos 2 *ℤ F .cx) (w .e-is) (twice-scaled g (d .x) (F .cx) (w .x-is)) (eqZ→eq ((a .x +ℤ b .x) *ℤ pos (d .e)) (pos 2 *ℤ d .x) (and-left along-x along-y t)),
-      scaled (a .y +ℤ b .y) (pos (d .e)) (pos 2 *ℤ d .y) g (F .e) (pos 2 *ℤ F .cy) (w .e-is) (twice-scaled g (d .y) (F .cy) (w .y-is)) (eqZ→eq ((a .y +ℤ b .y) *ℤ pos (d .e)) (pos 2 *ℤ d .y) (and-right along-x along-y t)),
+      scaled (a .x +ℤ b .x) (pos (d .e)) (pos 2 *ℤ d .x) g (F .e) (pos 2 *ℤ F .cx) (w .e-is) (twice-scaled g (d .x) (F .cx) (w .x-is))
+          (eqZ→eq ((a .x +ℤ b .x) *ℤ pos (d .e)) (pos 2 *ℤ d .x) (and-left along-x along-y t)),
+      scaled (a .y +ℤ b .y) (pos (d .e)) (pos 2 *ℤ d .y) g (F .e) (pos 2 *ℤ F .cy) (w .e-is) (twice-scaled g (d .y) (F .cy) (w .y-is))
+          (eqZ→eq ((a .y +ℤ b .y) *ℤ pos (d .e)) (pos 2 *ℤ d .y) (and-right along-x along-y t)),
     )
 
     pub strong-two : StronglyMinimal (a ∷ b ∷ []) [] F → T (fits d (a ∷ b ∷ []))
     unfolding fits opposite midway
     strong-two m = and-both along-x along-y
-        (eq→eqZ ((a .x +ℤ b .x) *ℤ pos (d .e)) (pos 2 *ℤ d .x) (unscaled (a .x +ℤ b .x) (pos (d .e)) (pos 2 *ℤ d .x) g (F .e) (pos 2 *ℤ F .cx) factor (w .e-is) (twice-scaled g (d .x) (F .cx) (w .x-is)) (centre .0)))
-        (eq→eqZ ((a .y +ℤ b .y) *ℤ pos (d .e)) (pos 2 *ℤ d .y) (unscaled (a .y +ℤ b .y) (pos (d .e)) (pos 2 *ℤ d .y) g (F .e) (pos 2 *ℤ F .cy) factor (w .e-is) (twice-scaled g (d .y) (F .cy) (w .y-is)) (centre .1)))
+        (eq→eqZ ((a .x +ℤ b .x) *ℤ pos (d .e)) (pos 2 *ℤ d .x)
+        (unscaled (a .x +ℤ b .x) (pos (d .e)) (pos 2 *ℤ d .x) g (F .e) (pos 2 *ℤ F .cx) factor (w .e-is) (twice-scaled g (d .x) (F .cx) (w .x-is))
+        (centre .0)))
+        (eq→eqZ ((a .y +ℤ b .y) *ℤ pos (d .e)) (pos 2 *ℤ d .y)
+        (unscaled (a .y +ℤ b .y) (pos (d .e)) (pos 2 *ℤ d .y) g (F .e) (pos 2 *ℤ F .cy) factor (w .e-is) (twice-scaled g (d .y) (F .cy) (w .y-is))
+        (centre .1)))
       where
         centre : ((a .x +ℤ b .x) *ℤ F .e ≡ pos 2 *ℤ F .cx) × ((a .y +ℤ b .y) *ℤ F .e ≡ pos 2 *ℤ F .cy)
         centre = two-test F proper a b ha hb .0 m
@@ -118,7 +125,8 @@ module _ {F : Lifted} {d : Disk} (proper : pos 0 <ℤ F .e) (w : Written F d) wh
 abbrev others : Point → Point → Point → Bool
 others a b c = acuteAt b c a && acuteAt c a b
 
-pub three-strong : {F : Lifted} (d : Disk) (a b c : Point) → pos 0 <ℤ F .e → value F a ≡ pos 0 → value F b ≡ pos 0 → value F c ≡ pos 0 → T (fits d (a ∷ b ∷ c ∷ [])) → StronglyMinimal (a ∷ b ∷ c ∷ []) [] F
+pub three-strong : {F : Lifted} (d : Disk) (a b c : Point) → pos 0 <ℤ F .e → value F a ≡ pos 0 → value F b ≡ pos 0 → value F c ≡ pos 0
+    → T (fits d (a ∷ b ∷ c ∷ [])) → StronglyMinimal (a ∷ b ∷ c ∷ []) [] F
 unfolding fits acute acuteAt
 three-strong {F} d a b c proper ha hb hc t = acute-strong F proper a b c ha hb hc
     (record { lt = and-left (acuteAt a b c) (others a b c) t })
@@ -130,4 +138,5 @@ three-strong {F} d a b c proper ha hb hc t = acute-strong F proper a b c ha hb h
 
 pub acute-three : (d : Disk) (a b c : Point) → pos 0 <ℤ angle a b c → pos 0 <ℤ angle b a c → pos 0 <ℤ angle c a b → T (fits d (a ∷ b ∷ c ∷ []))
 unfolding fits acute acuteAt
-acute-three d a b c ka kb kc = and-both (acuteAt a b c) (others a b c) (ka .lt) (and-both (acuteAt b c a) (acuteAt c a b) (subst (λ (z : ℤ). pos 0 <ℤ z) (turned a b c) kb .lt) (kc .lt))
+acute-three d a b c ka kb kc = and-both (acuteAt a b c) (others a b c) (ka .lt)
+    (and-both (acuteAt b c a) (acuteAt c a b) (subst (λ (z : ℤ). pos 0 <ℤ z) (turned a b c) kb .lt) (kc .lt))

@@ -8,10 +8,10 @@ use borrow.Author.Tests.{not-true, not-false}
 use lib.ListN.{drop}
 use Rattle.geometry.specs.declared.Point.{Point}
 use Rattle.geometry.specs.Points.{firstPoints}
-use Rattle.rising_lists.specs.declared.Place.the-variants.{At}
-use Rattle.rising_lists.specs.Place.{placeOf}
 use Rattle.geometry.proofs.PointRows.{firstPoints-from, firstPoints-end}
 use Rattle.point_lists.proofs.Order.{behind-not-before}
+use Rattle.rising_lists.specs.declared.Place.the-variants.{At}
+use Rattle.rising_lists.specs.Place.{placeOf}
 use Rattle.rising_lists.proofs.Placing.{place-here, place-there, place-later, place-end}
 use Rattle.rising_lists.proofs.find_place.Statement.{statement}
 use Rattle.rising_lists.proofs.find_place.Tie as tie
@@ -39,7 +39,8 @@ module _ (c : tie.After-point-at Inv-loop μ-loop) where
   left : placeOf (s .args .p) (q ∷ behind) (at .loop .k) ≡ placeOf (s .args .p) (firstPoints (s .args .n) (s .args .list .now)) 0
   left =
       ap (λ (R : List Point). placeOf (s .args .p) R (at .loop .k))
-      (ap {B = List Point} (λ x. x ∷ behind) (c .point-at .ensures) ∙ sym (firstPoints-from (s .args .n) (at .loop .k) (s .args .list .now) (s .pre) (c .before .loop-test .taken)))
+      (ap {B = List Point} (λ x. x ∷ behind) (c .point-at .ensures)
+      ∙ sym (firstPoints-from (s .args .n) (at .loop .k) (s .args .list .now) (s .pre) (c .before .loop-test .taken)))
       ∙ at .loop .inv .1
 
 loop-holds : tie.Need-loop-holds Inv-loop μ-loop
@@ -83,7 +84,9 @@ returns-3 c =
     let at = c .before in
     let s = at .before in
     let e : at .loop .k ≡ s .args .n = omega arith in
-    ap At (sym e) ∙ (sym (place-end (s .args .p) (at .loop .k)) ∙ rw (sym (firstPoints-end (s .args .n) (at .loop .k) (s .args .list .now) (s .pre) (c .loop-test .left))) (at .loop .inv .1))
+    ap At (sym e)
+    ∙ (sym (place-end (s .args .p) (at .loop .k))
+    ∙ rw (sym (firstPoints-end (s .args .n) (at .loop .k) (s .args .list .now) (s .pre) (c .loop-test .left))) (at .loop .inv .1))
 
 pub find-place-spec : {M : Type 1} → statement M
 find-place-spec =

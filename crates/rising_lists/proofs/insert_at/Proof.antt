@@ -6,9 +6,9 @@ use native.Mathlib.Omega.{arith}
 use lib.ListN.{length, drop}
 use Rattle.geometry.specs.declared.Point.{Point}
 use Rattle.geometry.specs.Points.{pointAt, firstPoints}
-use Rattle.rising_lists.specs.Place.{insertedAt}
 use Rattle.geometry.proofs.PointRows.{firstPoints-from, firstPoints-end, firstPoints-take, pointAt-drop, drop-next}
 use Rattle.point_lists.proofs.Put.{firstPoints-put, drop-put, length-put}
+use Rattle.rising_lists.specs.Place.{insertedAt}
 use Rattle.rising_lists.proofs.insert_at.Statement.{statement}
 use Rattle.rising_lists.proofs.insert_at.Tie as tie
 
@@ -45,7 +45,8 @@ loop-again c =
     let l = at .loop .list in
     let l₀ = s .args .list .now in
     let Q : List Point = firstPoints (s .args .n) l₀ in
-    let read : c .before .before .before .point-at .result ≡ pointAt l₀ i = c .before .before .before .point-at .ensures ∙ pointAt-drop i l l₀ (at .loop .inv .3) in
+    let read : c .before .before .before .point-at .result ≡ pointAt l₀ i = c .before .before .before .point-at .ensures
+    ∙ pointAt-drop i l l₀ (at .loop .inv .3) in
     let rest : drop i Q ≡ pointAt l₀ i ∷ drop (i + 1) Q = firstPoints-from (s .args .n) i l₀ (omega arith) (omega arith) in (
       omega arith,
       omega arith,
@@ -67,7 +68,8 @@ returns c =
     let at = c .before .before .before .before in
     let s = at .before in
     let e : at .loop .i ≡ s .args .n = omega arith in
-    let end : drop (s .args .n) (firstPoints (s .args .n) (s .args .list .now)) ≡ [] = firstPoints-end (s .args .n) (s .args .n) (s .args .list .now) (omega arith) (omega arith) in
+    let end : drop (s .args .n) (firstPoints (s .args .n) (s .args .list .now)) ≡ [] = firstPoints-end (s .args .n) (s .args .n) (s .args .list .now)
+    (omega arith) (omega arith) in
     rw (c .before .put-point2 .ensures, firstPoints-put (at .loop .list) (s .args .n) (at .loop .held) (omega arith)) (rw (e, end) at (at .loop .inv .4))
 
 pub insert-at-spec : {M : Type 1} → statement M

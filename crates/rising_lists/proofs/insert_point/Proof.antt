@@ -12,7 +12,8 @@ use Rattle.rising_lists.proofs.insert_point.Statement.{statement}
 use Rattle.rising_lists.proofs.insert_point.Tie as tie
 
 -- in the arm that puts p in: where it goes
-found : (c : tie.After-k) → let s = c .before .before .before .before in Placed (s .args .p) (firstPoints (s .args .n) (s .args .list .now)) 0 (c .k .given .0 .0)
+found : (c : tie.After-k)
+    → let s = c .before .before .before .before in Placed (s .args .p) (firstPoints (s .args .n) (s .args .list .now)) 0 (c .k .given .0 .0)
 found c =
     let s = c .before .before .before .before in
     placed (s .args .p) (firstPoints (s .args .n) (s .args .list .now)) 0 (c .k .given .0 .0) (sym (c .before .before .find-place .ensures) ∙ c .k .given .1)

@@ -9,10 +9,10 @@ use borrow.Author.Tests.{eq-eqb, ne-eqb}
 use lib.ListN.{length, drop}
 use Rattle.geometry.specs.declared.Point.{Point}
 use Rattle.geometry.specs.Points.{pointAt, firstPoints}
+use Rattle.geometry.proofs.PointRows.{firstPoints-from, firstPoints-end}
 use Rattle.disks.specs.Support.{choose}
 use Rattle.support_tests.specs.Tests.{fits}
 use Rattle.support_search.specs.Search.{firstFit}
-use Rattle.geometry.proofs.PointRows.{firstPoints-from, firstPoints-end}
 use Rattle.support_search.proofs.Left.{fit-some, acuteSet, three-acute, ones-hit, ones-miss, pairsFrom, pairsWith, triplesFrom, triplesWith, triplesOf}
 use Rattle.support_search.proofs.Left.{pairs-at, pair-hit, pair-miss, pairs-with-end, pairs-end}
 use Rattle.support_search.proofs.Left.{triples-at, triples-with-at, triple-hit, triple-miss, triples-of-end, triples-with-end, triples-end}
@@ -107,11 +107,13 @@ module _ (c : tie.After-point-at3 Inv-loop2 μ-loop2 Inv-loop μ-loop Inv-loop5 
   pair-fails h = sym (pair-miss (passes s) (row s) p i (c .point-at3 .result) j second h) ∙ c .before .before .loop2 .inv .1
 
 -- no pair passes: the first triple is the answer
-after-pairs : (c : tie.After-loop Inv-loop2 μ-loop2 Inv-loop μ-loop Inv-loop5 μ-loop5 Inv-loop4 μ-loop4 Inv-loop3 μ-loop3 Inv-search μ-search) → triplesFrom acuteSet (row (c .before .before)) 0 ≡ answer (c .before .before)
+after-pairs : (c : tie.After-loop Inv-loop2 μ-loop2 Inv-loop μ-loop Inv-loop5 μ-loop5 Inv-loop4 μ-loop4 Inv-loop3 μ-loop3 Inv-search μ-search)
+    → triplesFrom acuteSet (row (c .before .before)) 0 ≡ answer (c .before .before)
 after-pairs c =
     let at = c .before in
     let u = at .before in
-    sym (three-acute (start u .args .disk) (row u)) ∙ sym (pairs-end (passes u) (row u) (at .loop .i) (none u (at .loop .i) (c .loop-test .left))) ∙ at .loop .inv .1
+    sym (three-acute (start u .args .disk) (row u)) ∙ sym (pairs-end (passes u) (row u) (at .loop .i) (none u (at .loop .i) (c .loop-test .left)))
+    ∙ at .loop .inv .1
 
 -- a triple of points that were read
 module _ (c : tie.After-point-at6 Inv-loop2 μ-loop2 Inv-loop μ-loop Inv-loop5 μ-loop5 Inv-loop4 μ-loop4 Inv-loop3 μ-loop3 Inv-search μ-search) where
@@ -162,7 +164,8 @@ returns c =
     let p : Point = c .before .before .point-at .result in
     let some : 0 < s .args .n = fit-some (s .args .disk) (s .args .n) (s .args .list .now) (s .pre .2) in
     let first : Q ≡ p ∷ drop 1 Q =
-    firstPoints-from (s .args .n) 0 (s .args .list .now) (s .pre .0) some ∙ ap {B = List Point} (λ q. q ∷ drop 1 Q) (sym (c .before .before .point-at .ensures)) in
+    firstPoints-from (s .args .n) 0 (s .args .list .now) (s .pre .0) some
+    ∙ ap {B = List Point} (λ q. q ∷ drop 1 Q) (sym (c .before .before .point-at .ensures)) in
     sym (ones-hit (fits (s .args .disk)) Q p (drop 1 Q) first (eq-eqb (s .args .disk .s) 0 (c .if1 .taken)))
 
 search-holds : tie.Need-search-holds Inv-loop2 μ-loop2 Inv-loop μ-loop Inv-loop5 μ-loop5 Inv-loop4 μ-loop4 Inv-loop3 μ-loop3 Inv-search μ-search
@@ -184,13 +187,17 @@ add-j c = omega arith
 loop2-holds : tie.Need-loop2-holds Inv-loop2 μ-loop2 Inv-loop μ-loop Inv-loop5 μ-loop5 Inv-loop4 μ-loop4 Inv-loop3 μ-loop3 Inv-search μ-search
 loop2-holds c =
     let at = c .before .before in
-    let s = at .before in
-    (omega arith, sym (pairs-at (passes s) (row s) (c .point-at2 .result) (at .loop .i) (next s (at .loop .i) (c .point-at2 .ensures) (c .before .loop-test .taken))) ∙ at .loop .inv .1)
+    let s = at .before in (
+      omega arith,
+      sym (pairs-at (passes s) (row s) (c .point-at2 .result) (at .loop .i)
+          (next s (at .loop .i) (c .point-at2 .ensures) (c .before .loop-test .taken))) ∙ at .loop .inv .1,
+    )
 
 point-at-requires-3 : tie.Need-point-at-requires-3 Inv-loop2 μ-loop2 Inv-loop μ-loop Inv-loop5 μ-loop5 Inv-loop4 μ-loop4 Inv-loop3 μ-loop3 Inv-search μ-search
 point-at-requires-3 c κs = omega arith
 
-is-opposite-requires : tie.Need-is-opposite-requires Inv-loop2 μ-loop2 Inv-loop μ-loop Inv-loop5 μ-loop5 Inv-loop4 μ-loop4 Inv-loop3 μ-loop3 Inv-search μ-search
+is-opposite-requires : tie.Need-is-opposite-requires Inv-loop2 μ-loop2 Inv-loop μ-loop Inv-loop5 μ-loop5 Inv-loop4 μ-loop4 Inv-loop3 μ-loop3
+    Inv-search μ-search
 is-opposite-requires c κs = start (c .before .before .before .before .before .before) .pre .1
 
 add-j-2 : tie.Need-add-j-2 Inv-loop2 μ-loop2 Inv-loop μ-loop Inv-loop5 μ-loop5 Inv-loop4 μ-loop4 Inv-loop3 μ-loop3 Inv-search μ-search
@@ -213,8 +220,11 @@ loop-again : tie.Need-loop-again Inv-loop2 μ-loop2 Inv-loop μ-loop Inv-loop5 �
 loop-again c =
     let at = c .before in
     let p = at .before in
-    let s = p .before .before .before in
-    (omega arith, sym (pairs-with-end (passes s) (row s) (p .point-at2 .result) (p .before .before .loop .i) (at .loop2 .j) (none s (at .loop2 .j) (c .loop2-test .left))) ∙ at .loop2 .inv .1)
+    let s = p .before .before .before in (
+      omega arith,
+      sym (pairs-with-end (passes s) (row s) (p .point-at2 .result) (p .before .before .loop .i) (at .loop2 .j)
+          (none s (at .loop2 .j) (c .loop2-test .left))) ∙ at .loop2 .inv .1,
+    )
 
 loop3-holds : tie.Need-loop3-holds Inv-loop2 μ-loop2 Inv-loop μ-loop Inv-loop5 μ-loop5 Inv-loop4 μ-loop4 Inv-loop3 μ-loop3 Inv-search μ-search
 loop3-holds c = (search needs, refl)
@@ -228,8 +238,11 @@ add-j-3 c = omega arith
 loop4-holds : tie.Need-loop4-holds Inv-loop2 μ-loop2 Inv-loop μ-loop Inv-loop5 μ-loop5 Inv-loop4 μ-loop4 Inv-loop3 μ-loop3 Inv-search μ-search
 loop4-holds c =
     let at = c .before .before in
-    let s = at .before .before .before in
-    (omega arith, sym (triples-at acuteSet (row s) (c .point-at4 .result) (at .loop3 .i) (next s (at .loop3 .i) (c .point-at4 .ensures) (c .before .loop3-test .taken))) ∙ at .loop3 .inv .1)
+    let s = at .before .before .before in (
+      omega arith,
+      sym (triples-at acuteSet (row s) (c .point-at4 .result) (at .loop3 .i)
+          (next s (at .loop3 .i) (c .point-at4 .ensures) (c .before .loop3-test .taken))) ∙ at .loop3 .inv .1,
+    )
 
 point-at-requires-5 : tie.Need-point-at-requires-5 Inv-loop2 μ-loop2 Inv-loop μ-loop Inv-loop5 μ-loop5 Inv-loop4 μ-loop4 Inv-loop3 μ-loop3 Inv-search μ-search
 point-at-requires-5 c κs = omega arith
@@ -241,8 +254,11 @@ loop5-holds : tie.Need-loop5-holds Inv-loop2 μ-loop2 Inv-loop μ-loop Inv-loop5
 loop5-holds c =
     let at = c .before .before in
     let p = at .before in
-    let s = p .before .before .before .before .before in
-    (omega arith, sym (triples-with-at acuteSet (row s) (p .point-at4 .result) (p .before .before .loop3 .i) (c .point-at5 .result) (at .loop4 .j) (next s (at .loop4 .j) (c .point-at5 .ensures) (c .before .loop4-test .taken))) ∙ at .loop4 .inv .1)
+    let s = p .before .before .before .before .before in (
+      omega arith,
+      sym (triples-with-at acuteSet (row s) (p .point-at4 .result) (p .before .before .loop3 .i) (c .point-at5 .result) (at .loop4 .j)
+          (next s (at .loop4 .j) (c .point-at5 .ensures) (c .before .loop4-test .taken))) ∙ at .loop4 .inv .1,
+    )
 
 point-at-requires-6 : tie.Need-point-at-requires-6 Inv-loop2 μ-loop2 Inv-loop μ-loop Inv-loop5 μ-loop5 Inv-loop4 μ-loop4 Inv-loop3 μ-loop3 Inv-search μ-search
 point-at-requires-6 c κs = omega arith
@@ -271,8 +287,11 @@ loop4-again c =
     let at = c .before in
     let q = at .before in
     let p = q .before .before .before in
-    let s = p .before .before .before .before .before in
-    (omega arith, sym (triples-of-end acuteSet (row s) (p .point-at4 .result) (p .before .before .loop3 .i) (q .point-at5 .result) (q .before .before .loop4 .j) (at .loop5 .k) (none s (at .loop5 .k) (c .loop5-test .left))) ∙ at .loop5 .inv .1)
+    let s = p .before .before .before .before .before in (
+      omega arith,
+      sym (triples-of-end acuteSet (row s) (p .point-at4 .result) (p .before .before .loop3 .i) (q .point-at5 .result)
+          (q .before .before .loop4 .j) (at .loop5 .k) (none s (at .loop5 .k) (c .loop5-test .left))) ∙ at .loop5 .inv .1,
+    )
 
 add-i-2 : tie.Need-add-i-2 Inv-loop2 μ-loop2 Inv-loop μ-loop Inv-loop5 μ-loop5 Inv-loop4 μ-loop4 Inv-loop3 μ-loop3 Inv-search μ-search
 add-i-2 c = omega arith
@@ -284,8 +303,11 @@ loop3-again : tie.Need-loop3-again Inv-loop2 μ-loop2 Inv-loop μ-loop Inv-loop5
 loop3-again c =
     let at = c .before in
     let p = at .before in
-    let s = p .before .before .before .before .before in
-    (omega arith, sym (triples-with-end acuteSet (row s) (p .point-at4 .result) (p .before .before .loop3 .i) (at .loop4 .j) (none s (at .loop4 .j) (c .loop4-test .left))) ∙ at .loop4 .inv .1)
+    let s = p .before .before .before .before .before in (
+      omega arith,
+      sym (triples-with-end acuteSet (row s) (p .point-at4 .result) (p .before .before .loop3 .i) (at .loop4 .j)
+          (none s (at .loop4 .j) (c .loop4-test .left))) ∙ at .loop4 .inv .1,
+    )
 
 returns-2 : tie.Need-returns-2 Inv-loop2 μ-loop2 Inv-loop μ-loop Inv-loop5 μ-loop5 Inv-loop4 μ-loop4 Inv-loop3 μ-loop3 Inv-search μ-search
 unfolding fits

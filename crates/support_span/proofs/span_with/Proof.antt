@@ -71,7 +71,8 @@ returns-2 : tie.Need-returns-2 Inv-loop μ-loop
 returns-2 c =
     let u = c .before .before .before in
     let Q = firstPoints (s u .args .n) (s u .args .list .now) in
-    across-spans (s u .args .disk) Q (q u) (p u) (q-in u) (s u .pre .1 .0) (opposite-swap (s u .args .disk) (q u) (p u) ∙ across u) (toZ-ofZ (q-fits u)) (toZ-ofZ (p-fits u))
+    across-spans (s u .args .disk) Q (q u) (p u) (q-in u) (s u .pre .1 .0) (opposite-swap (s u .args .disk) (q u) (p u) ∙ across u)
+    (toZ-ofZ (q-fits u)) (toZ-ofZ (p-fits u))
 
 add-k : tie.Need-add-k Inv-loop μ-loop
 add-k c = omega (arith, c .before .before .before .before .before .pre .0 .0)

@@ -17,7 +17,8 @@ is-acute-at-requires c κs = search needs
 
 returns : tie.Need-returns
 unfolding acute
-returns c = let s = c .before .before in stop (acuteAt (s .args .q) (s .args .r) (s .args .p) && acuteAt (s .args .r) (s .args .p) (s .args .q)) (sym (c .before .is-acute-at .ensures) ∙ not-true (c .before .is-acute-at .result) (c .if1 .taken))
+returns c = let s = c .before .before in stop (acuteAt (s .args .q) (s .args .r) (s .args .p) && acuteAt (s .args .r) (s .args .p) (s .args .q))
+    (sym (c .before .is-acute-at .ensures) ∙ not-true (c .before .is-acute-at .result) (c .if1 .taken))
 
 is-acute-at-requires-2 : tie.Need-is-acute-at-requires-2
 is-acute-at-requires-2 c κs = search needs
@@ -26,14 +27,18 @@ returns-2 : tie.Need-returns-2
 unfolding acute
 returns-2 c =
     let s = c .before .before .before .before in
-    pass (at-first (c .before .before)) (stop (acuteAt (s .args .r) (s .args .p) (s .args .q)) (sym (c .before .is-acute-at2 .ensures) ∙ not-true (c .before .is-acute-at2 .result) (c .if2 .taken)))
+    pass (at-first (c .before .before))
+    (stop (acuteAt (s .args .r) (s .args .p) (s .args .q))
+    (sym (c .before .is-acute-at2 .ensures) ∙ not-true (c .before .is-acute-at2 .result) (c .if2 .taken)))
 
 is-acute-at-requires-3 : tie.Need-is-acute-at-requires-3
 is-acute-at-requires-3 c κs = search needs
 
 returns-3 : tie.Need-returns-3
 unfolding acute
-returns-3 c = pass (at-first (c .before .before .before)) (pass (sym (c .before .before .is-acute-at2 .ensures) ∙ not-false (c .before .before .is-acute-at2 .result) (c .before .if2 .left)) (c .is-acute-at3 .ensures))
+returns-3 c = pass (at-first (c .before .before .before))
+    (pass (sym (c .before .before .is-acute-at2 .ensures) ∙ not-false (c .before .before .is-acute-at2 .result) (c .before .if2 .left))
+    (c .is-acute-at3 .ensures))
 
 pub is-acute-spec : {M : Type 1} → statement M
 is-acute-spec =

@@ -1,6 +1,6 @@
 -- `support_tests::is_midway` meets its contract: nothing wraps, so the machine compares the two numbers of `midway`.
 use borrow.Author.Needs.{needs}
-use mathlib.Core.Path.{refl, _∙_}
+use mathlib.Core.Path.{refl}
 use lib.IntN.{pos, _+ℤ_, _*ℤ_}
 use mir.Syntax.{w64}
 use mir.Val.{toZ, ofZ}
@@ -15,7 +15,8 @@ sum c =
     let s = c .before .before in
     v-add (wide-value (s .args .a) (s .fits .a) (c .before .wide .ensures)) (wide-value (s .args .b) (s .fits .b) (c .wide2 .ensures))
 
-abbrev scaled : (c : tie.After-wide2) → Value (toZ w64 (ofZ w64 (toZ w64 (ofZ w64 (c .before .wide .result)) +ℤ toZ w64 (ofZ w64 (c .wide2 .result)))) *ℤ toZ w64 (c .before .before .args .e))
+abbrev scaled : (c : tie.After-wide2)
+    → Value (toZ w64 (ofZ w64 (toZ w64 (ofZ w64 (c .before .wide .result)) +ℤ toZ w64 (ofZ w64 (c .wide2 .result)))) *ℤ toZ w64 (c .before .before .args .e))
 scaled c = v-mul (v-back w64 (sum c)) (v-nat w64 (c .before .before .args .e) (c .before .before .pre .e-most))
 
 abbrev twice : (c : tie.After-wide2) → Value (pos 2 *ℤ toZ w64 (ofZ w64 (c .before .before .args .c)))

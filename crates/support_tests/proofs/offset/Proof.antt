@@ -11,7 +11,8 @@ use Rattle.support_tests.proofs.offset.Tie as tie
 abbrev scaled : (c : tie.After-wide) → Value (toZ w64 (ofZ w64 (c .wide .result)) *ℤ toZ w64 (c .before .args .e))
 scaled c = v-mul (wide-value (c .before .args .v) (c .before .fits .v) (c .wide .ensures)) (v-nat w64 (c .before .args .e) (c .before .pre .e-most))
 
-abbrev difference : (c : tie.After-wide) → Value (toZ w64 (ofZ w64 (toZ w64 (ofZ w64 (c .wide .result)) *ℤ toZ w64 (c .before .args .e))) -ℤ toZ w64 (ofZ w64 (c .before .args .c)))
+abbrev difference : (c : tie.After-wide)
+    → Value (toZ w64 (ofZ w64 (toZ w64 (ofZ w64 (c .wide .result)) *ℤ toZ w64 (c .before .args .e))) -ℤ toZ w64 (ofZ w64 (c .before .args .c)))
 difference c = v-add (v-back w64 (scaled c)) (v-neg (stored-value (c .before .args .c) (c .before .pre .c-most)))
 
 wide-requires : tie.Need-wide-requires

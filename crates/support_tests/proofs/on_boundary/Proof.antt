@@ -1,5 +1,4 @@
 -- `support_tests::on_boundary` meets its contract: the offsets are those of `distance`, and small enough that their squares fit.
-use mathlib.Core.Path.{_∙_}
 use lib.IntN.{pos, _+ℤ_, _*ℤ_}
 use mir.Syntax.{w64}
 use mir.Val.{toZ, ofZ}
@@ -12,13 +11,15 @@ use Rattle.support_tests.proofs.on_boundary.Tie as tie
 abbrev along-x : (c : tie.After-offset) → Value (toZ w64 (ofZ w64 (c .offset .result)))
 along-x c =
     let s = c .before .before .before in
-    offset-value (s .args .p .x) (s .args .disk .e) (s .args .disk .x) (record { sfits = c .before .before .struct-told .given .0 .1 }) (limits-small (s .args .disk) (s .pre .0) .0 .c-most)
+    offset-value (s .args .p .x) (s .args .disk .e) (s .args .disk .x) (record { sfits = c .before .before .struct-told .given .0 .1 })
+    (limits-small (s .args .disk) (s .pre .0) .0 .c-most)
     (near-x (s .args .disk) (s .pre .0) (s .args .p) (s .pre .1)) (c .offset .ensures)
 
 abbrev along-y : (c : tie.After-offset2) → Value (toZ w64 (ofZ w64 (c .offset2 .result)))
 along-y c =
     let s = c .before .before .before .before .before .before in
-    offset-value (s .args .p .y) (s .args .disk .e) (s .args .disk .y) (record { sfits = c .before .before .struct-told3 .given .1 .0 .1 }) (limits-small (s .args .disk) (s .pre .0) .1 .c-most)
+    offset-value (s .args .p .y) (s .args .disk .e) (s .args .disk .y) (record { sfits = c .before .before .struct-told3 .given .1 .0 .1 })
+    (limits-small (s .args .disk) (s .pre .0) .1 .c-most)
     (near-y (s .args .disk) (s .pre .0) (s .args .p) (s .pre .1)) (c .offset2 .ensures)
 
 abbrev squares : (c : tie.After-offset2)
