@@ -6,7 +6,8 @@ use Rattle.geometry.specs.Plane.{holds}
 use Rattle.geometry.specs.Order.{before}
 use Rattle.geometry.specs.Points.{points, flat}
 use Rattle.disks.specs.Procedure.{outside, lowestTerms, diameterDisk, turnedBy, circle, boundaryDisk, tested, step, through, run}
-use Rattle.disks.specs.Support.{insert, sorted, fronted, choose, sameDisk, supports, firstOf, firstSupport}
+use Rattle.point_lists.specs.Rising.{insert, sorted}
+use Rattle.disks.specs.Support.{fronted, choose, sameDisk, supports, firstOf, firstSupport}
 use Rattle.engine.specs.Engine.{encloseOf, listAfter}
 use Rattle.record.specs.Least.{least, firstFrom}
 use Rattle.record.specs.Valid.{centreInEmBox, validDisk, rising, validPoints, valid}

@@ -11,7 +11,8 @@ use lib.Signed.{ltZ}
 use Rattle.integers.specs.Bounds.{lt-true}
 use Rattle.integers.specs.Order.{≤-refl, <-≤-clash}
 use Rattle.geometry.specs.declared.Point.{Point}
-use Rattle.geometry.specs.Order.{eqZ, before}
+use Rattle.integers.specs.Between.{eqZ}
+use Rattle.geometry.specs.Order.{before}
 use Rattle.record.specs.Bytes.{madeThree}
 use Rattle.record.specs.Reading.{same, meant}
 use Rattle.record.proofs.SamePoint.{same-eq, same-refl}

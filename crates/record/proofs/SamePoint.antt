@@ -12,11 +12,10 @@ use lib.Signed.{leZ}
 use mir.Syntax.{w16}
 use mir.Val.{SFits, toZ, ofZ}
 use mir.Facts.{toZ-ofZ}
-use Rattle.integers.specs.Between.{first, rest}
+use Rattle.integers.specs.Between.{first, rest, eqZ}
 use Rattle.integers.specs.Bounds.{le-true}
 use Rattle.integers.specs.Order.{≤-refl, ≤-antisym}
 use Rattle.geometry.specs.declared.Point.{Point}
-use Rattle.geometry.specs.Order.{eqZ}
 use Rattle.record.specs.Reading.{same}
 use Rattle.record.proofs.Row.{both, is-true}
 

@@ -20,7 +20,7 @@ use Rattle.big_endian.specs.Fields.{get}
 use Rattle.big_endian.specs.Twos.{back}
 use Rattle.geometry.specs.declared.Point.{Point}
 use Rattle.geometry.specs.declared.Disk.{Disk}
-use Rattle.geometry.specs.Order.{eqZ}
+use Rattle.integers.specs.Between.{eqZ}
 use Rattle.geometry.specs.Plane.{members}
 use Rattle.record.specs.Valid.{valid}
 use Rattle.record.specs.Bytes.{recordLength}

@@ -4,9 +4,8 @@ use borrow.Author.Tests.{eq-eqb, ne-eqb}
 use lib.Dec.{eqb}
 use mir.Val.{ofZ}
 use mir.Syntax.{w16}
-use Rattle.integers.specs.Between.{stop, pass}
+use Rattle.integers.specs.Between.{stop, pass, eqZ}
 use Rattle.geometry.specs.declared.Point.{Point}
-use Rattle.geometry.specs.Order.{eqZ}
 use Rattle.record.specs.Reading.{same}
 use Rattle.record.proofs.SamePoint.{same-bits}
 use Rattle.record.proofs.reader.is_same.Statement.{statement}
