@@ -1,14 +1,16 @@
 -- A point written into a list of numbers.
 --
 --   length-put, drop-put  : the length, and what is behind, stay
---   firstPoints-put       : with p written as point i, the first i + 1 points are the first i and p
+--   take-put              : with p written as point i, the numbers up to it are those before and p's
+--   firstPoints-put       : and the first i + 1 points are the first i and p
 use mathlib.Core.Path.{_≡_, ap, _∙_}
-use mathlib.Core.List.{List, [], _∷_, _++_}
-use Prim.Native.Nat.{ℕ, _+_, _*_, _≤_}
+use mathlib.Core.List.{List, [], _∷_, _++_, append-assoc}
+use Prim.Native.Nat.{ℕ, suc, _+_, _*_, _≤_, _<_}
+use native.Mathlib.Numerals.{add-one}
 use native.Mathlib.Omega.{arith}
 use lib.IntN.{ℤ, pos}
 use lib.ListN.{length, getD, set, take, drop, length-set}
-use lib.Seq.{take-set-le, drop-set-lt, getD-set-same, getD-set-other}
+use lib.Seq.{take-suc-set, take-set-le, drop-set-lt, getD-set-same, getD-set-other}
 use Rattle.geometry.specs.declared.Point.{Point}
 use Rattle.geometry.specs.Points.{points, pointAt, firstPoints}
 use Rattle.geometry.proofs.PointLists.{firstPoints-next}
@@ -20,6 +22,15 @@ module _ (l : List ℤ) (i : ℕ) (p : Point) where
 
   pub drop-put : drop (2 * (i + 1)) (putAt l i p) ≡ drop (2 * (i + 1)) l
   drop-put = drop-set-lt (2 * (i + 1)) (set l (2 * i) (p .x)) (2 * i + 1) (p .y) (omega arith) ∙ drop-set-lt (2 * (i + 1)) l (2 * i) (p .x) (omega arith)
+
+  pub take-put : 2 * i + 2 ≤ length l → take (2 * (i + 1)) (putAt l i p) ≡ take (2 * i) l ++ (p .x ∷ p .y ∷ [])
+  take-put h =
+      let more : 2 * (i + 1) ≡ suc (2 * i + 1) = omega arith in
+      let room : 2 * i + 1 < length (set l (2 * i) (p .x)) = rw (length-set l (2 * i) (p .x)) (omega arith) in
+      ap (λ (k : ℕ). take k (putAt l i p)) more
+      ∙ take-suc-set (set l (2 * i) (p .x)) (2 * i + 1) (p .y) room
+      ∙ ap (λ (m : List ℤ). m ++ (p .y ∷ [])) (ap (λ (k : ℕ). take k (set l (2 * i) (p .x))) (add-one (2 * i)) ∙ take-suc-set l (2 * i) (p .x) (omega arith))
+      ∙ append-assoc (take (2 * i) l) (p .x ∷ []) (p .y ∷ [])
 
   pub firstPoints-put : 2 * i + 2 ≤ length l → firstPoints (i + 1) (putAt l i p) ≡ firstPoints i l ++ (p ∷ [])
   firstPoints-put h =

@@ -31,7 +31,7 @@ enum-known-k : tie.Need-enum-known-k
 enum-known-k c = search needs
 
 insert-at-requires : tie.Need-insert-at-requires
-insert-at-requires c κs = (within (c .before .before), c .before .before .before .before .before .before .pre)
+insert-at-requires c κs = (omega (arith, within (c .before .before)), c .before .before .before .before .before .before .pre)
 
 add-result : tie.Need-add-result
 add-result c = search needs
