@@ -8,7 +8,7 @@ use Rattle.geometry.specs.declared.Point.{Point}
 use Rattle.geometry.specs.EmBox.{allInEmBox}
 use Rattle.geometry.specs.Points.{points}
 use Rattle.geometry.proofs.EmBox.{box-members}
-use Rattle.disks.proofs.Minimal.{same-refl}
+use Rattle.point_lists.proofs.Sets.{same-refl}
 use Rattle.disks.proofs.Welzl.{smallest}
 use Rattle.disks.proofs.OneWriting.{smallest-same}
 use Rattle.disks.proofs.Answer.{limits}

@@ -20,7 +20,8 @@ use Rattle.geometry.specs.EmBox.{allInEmBox}
 use Rattle.geometry.specs.Points.{points, flat}
 use Rattle.geometry.proofs.EmBox.{members-box}
 use Rattle.geometry.proofs.PointLists.{length-flat, points-of-flat}
-use Rattle.disks.specs.Smallest.{Same, Smallest}
+use Rattle.point_lists.specs.Sets.{Same}
+use Rattle.disks.specs.Smallest.{Smallest}
 use Rattle.disks.specs.Procedure.{Cover, disk, State, mtf, diskIn, diskOf, testsOf, orderOf}
 use Rattle.disks.specs.Support.{firstSupport}
 use Rattle.disks.proofs.LiftedProcedure as L

@@ -6,10 +6,11 @@ use Rattle.geometry.specs.Plane.{holds}
 use Rattle.geometry.specs.Order.{before}
 use Rattle.geometry.specs.Points.{points, flat}
 use Rattle.disks.specs.Procedure.{outside, lowestTerms, diameterDisk, turnedBy, circle, boundaryDisk, tested, step, through, run}
-use Rattle.disks.specs.Support.{insert, sorted, fronted, choose, sameDisk, supports, firstOf, firstSupport}
+use Rattle.point_lists.specs.Rising.{insert, sorted, rising}
+use Rattle.disks.specs.Support.{fronted, choose, sameDisk, supports, firstOf, firstSupport}
 use Rattle.engine.specs.Engine.{encloseOf, listAfter}
 use Rattle.integers.specs.Least.{least, firstFrom}
-use Rattle.validity.specs.Valid.{centreInEmBox, validDisk, rising, validPoints, valid}
+use Rattle.validity.specs.Valid.{centreInEmBox, validDisk, validPoints, valid}
 use Rattle.claims.specs.Letters.{letters, AllHold}
 
 pub letters-hold : AllHold letters

@@ -15,7 +15,8 @@ use Rattle.geometry.specs.declared.Point.{Point}
 use Rattle.geometry.specs.declared.Disk.{Disk}
 use Rattle.integers.proofs.Tests.{first}
 use Rattle.geometry.specs.EmBox.{allInEmBox}
-use Rattle.validity.specs.Valid.{oneToThree, rising, validPoints, valid}
+use Rattle.validity.specs.Valid.{oneToThree, validPoints, valid}
+use Rattle.point_lists.specs.Rising.{rising}
 use Rattle.record_writer.specs.Layout.{recordLength}
 use Rattle.record_writer.specs.Bytes.{recordBytes}
 use Rattle.record_writer.specs.Writing.{writeOf, leftBy, bufferAfter}

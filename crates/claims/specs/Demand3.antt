@@ -18,7 +18,8 @@ use Rattle.answers.specs.Outcome.{Outcome, given, andThen}
 use Rattle.geometry.specs.declared.Point.{Point}
 use Rattle.geometry.specs.declared.Disk.{Disk}
 use Rattle.geometry.specs.Points.{points, flat}
-use Rattle.disks.specs.Smallest.{Same, Smallest}
+use Rattle.point_lists.specs.Sets.{Same}
+use Rattle.disks.specs.Smallest.{Smallest}
 use Rattle.disks.specs.Procedure.{disk, mtf}
 use Rattle.disks.specs.FirstSupport.{IsFirstSupport}
 use Rattle.description.specs.Description as description

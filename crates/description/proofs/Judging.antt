@@ -15,13 +15,14 @@ use native.Mathlib.Numerals.{add-one}
 use native.Mathlib.Omega.{arith}
 use lib.Dec.{eqb}
 use lib.IntN.{ℤ}
-use lib.ListN.{length, getD, take, drop, set, length-drop, length-set, drop-of-length-le}
-use lib.Seq.{take-suc-set}
+use lib.ListN.{length, getD, take, drop, length-drop, drop-of-length-le}
 use borrow.Author.Tests.{le-leb, lt-leb}
 use Rattle.answers.specs.Outcome.{given, refused, refuseIf}
 use Rattle.geometry.specs.declared.Point.{Point}
 use Rattle.geometry.specs.EmBox.{inEmBox}
 use Rattle.geometry.specs.Points.{flat}
+use Rattle.point_lists.specs.Put.{putAt}
+use Rattle.point_lists.proofs.Put.{length-put, take-put}
 use Rattle.description.specs.declared.Step.the-variants as Step
 use Rattle.lines.specs.Line.{pieces, Line, blank, point, fault, lineOf}
 use Rattle.description.specs.Description.{linesRead, pointsOn, named, byLine}
@@ -82,16 +83,6 @@ pub record Judging (text : List ℕ) (found₀ found : List ℤ) (at n : ℕ) : 
 pub judging-start : (text : List ℕ) (found : List ℤ) → Judging text found found 0 0
 judging-start text found = record { inside = omega arith; few = omega arith; room = refl; verdict = refl; kept = refl }
 
--- a point behind n of them
-two-more : (l : List ℤ) (n : ℕ) (x y : ℤ) → 2 * n + 2 ≤ length l → take (2 * (n + 1)) (set (set l (2 * n) x) (2 * n + 1) y) ≡ take (2 * n) l ++ (x ∷ y ∷ [])
-two-more l n x y h =
-    let more : 2 * (n + 1) ≡ suc (2 * n + 1) = omega arith in
-    let room : 2 * n + 1 < length (set l (2 * n) x) = rw (length-set l (2 * n) x) (omega arith) in
-    ap (λ (k : ℕ). take k (set (set l (2 * n) x) (2 * n + 1) y)) more
-    ∙ take-suc-set (set l (2 * n) x) (2 * n + 1) y room
-    ∙ ap (λ (m : List ℤ). m ++ (y ∷ [])) (ap (λ (k : ℕ). take k (set l (2 * n) x)) (add-one (2 * n)) ∙ take-suc-set l (2 * n) x (omega arith))
-    ∙ append-assoc (take (2 * n) l) (x ∷ []) (y ∷ [])
-
 -- a point that is kept
 verdict-on : (n : ℕ) (p : Point) (ls : List Line) → inEmBox p ≡ true → n < 4096 → byLine n (point p ∷ ls) ≡ byLine (n + 1) ls
 unfolding byLine
@@ -125,15 +116,15 @@ module _ (text : List ℕ) (found₀ found : List ℤ) (at n : ℕ) (j : Judging
     }
 
     pub judging-keep : (p : Point) → StepAt text n (drop at text) (Step.Keep p next) → 8192 ≤ length found₀
-        → Judging text found₀ (set (set found (2 * n) (p .x)) (2 * n + 1) (p .y)) next (n + 1)
+        → Judging text found₀ (putAt found n p) next (n + 1)
     unfolding byLine pointsOn flat
     judging-keep p s room = record {
       inside = s .1 .0 .inside;
       few = omega (arith, s .1 .1 .1);
-      room = length-set (set found (2 * n) (p .x)) (2 * n + 1) (p .y) ∙ length-set found (2 * n) (p .x) ∙ j .room;
+      room = length-put found n p ∙ j .room;
       verdict = sym (verdict-on n p (linesRead (drop next text)) (s .1 .1 .0) (s .1 .1 .1)) ∙ sym (ap (byLine n) (lines-on (point p) (s .0) (s .1 .0))) ∙ j .verdict;
       kept =
-          ap (λ (l : List ℤ). l ++ flat (named (drop next text))) (two-more found n (p .x) (p .y) (omega (arith, j .room, s .1 .1 .1)))
+          ap (λ (l : List ℤ). l ++ flat (named (drop next text))) (take-put found n p (omega (arith, j .room, s .1 .1 .1)))
           ∙ append-assoc (take (2 * n) found) (p .x ∷ p .y ∷ []) (flat (named (drop next text)))
           ∙ sym (ap (λ (ls : List Line). take (2 * n) found ++ flat (pointsOn ls)) (lines-on (point p) (s .0) (s .1 .0)))
           ∙ j .kept;

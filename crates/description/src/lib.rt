@@ -3,8 +3,8 @@ use answers::Refusal;
 use geometry::Point;
 use lines::Scanned;
 ghost use mathlib.Core.Path.{_≡_};
-ghost use Prim.Native.Nat.{_+_, _*_, _<_, _≤_};
-ghost use lib.ListN.{length, drop, set};
+ghost use Prim.Native.Nat.{_*_, _<_, _≤_};
+ghost use lib.ListN.{length, drop};
 ghost use lib.Seq.{paste};
 ghost use Rattle.description.specs.Description.{linesRead, named, byLine, loadOf, listAfter, outcome};
 ghost use Rattle.description.specs.Verdict.{StepAt, Kept};
@@ -48,17 +48,6 @@ fn judge_line(text: &[u8], at: usize, n: usize) -> Step
     }
 }
 
-// Puts p at point n of a list of numbers, x and y by turns.
-fn put_point(list: &mut [i16], n: usize, p: Point)
-    requires { ⌜ 2 * n + 2 ≤ length (now list) ⌝ }
-    ensures { λ _. ⌜ now (list .exit) ≡ set (set (now (list .entry)) (2 * n) (p .x)) (2 * n + 1) (p .y) ⌝ }
-{
-    let x = p.x;
-    let y = p.y;
-    list[2 * n] = x;
-    list[2 * n + 1] = y;
-}
-
 // The verdict on the lines of a text, whose points are put at the front of found.
 fn judge(text: &[u8], found: &mut [i16]) -> Loaded
     requires { ⌜ 8192 ≤ length (now found) ⌝ }
@@ -73,7 +62,7 @@ fn judge(text: &[u8], found: &mut [i16]) -> Loaded
                 at = next;
             }
             Step::Keep(p, next) => {
-                put_point(found, n, p);
+                point_lists::put_point(found, n, p);
                 n += 1;
                 at = next;
             }

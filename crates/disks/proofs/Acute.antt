@@ -14,8 +14,9 @@ use lib.Signed.{_≤ℤ_, _<ℤ_}
 use Rattle.integers.proofs.Ring.{ring, poly, linear, eqn, _&_}
 use Rattle.integers.proofs.Order.{≤-of-eq, ≤-of-<, ≤-or-<, nonneg, positive, clash, le, lt, eq, sq, nn, _⊞_, _⊠_, <-≤-clash, *-pos, Compared, less, same, more, compared, sum-squares-zero}
 use Rattle.geometry.specs.declared.Point.{Point}
+use Rattle.point_lists.proofs.Sets.{none-of, also}
 use Rattle.disks.proofs.Lifted.{Lifted, value, squaredRadius}
-use Rattle.disks.proofs.Minimal.{none-of, also, StronglyMinimal, strong-same, held}
+use Rattle.disks.proofs.Minimal.{StronglyMinimal, strong-same, held}
 use Rattle.disks.proofs.Base.{Multiple, pairDisk, pair-first, pair-second, pair-gap, positive-two}
 use Rattle.disks.proofs.Lists.{perm-same}
 use Rattle.disks.proofs.Unique.{strong-unique, leave-out, square-positive}

@@ -19,10 +19,10 @@ use Rattle.geometry.specs.declared.Point.{Point}
 use Rattle.geometry.specs.declared.Limits.{Limits}
 use Rattle.geometry.specs.EmBox.{em, inBox, WithinLimits}
 use Rattle.geometry.proofs.EmBox.{inside}
-use Rattle.disks.specs.Smallest.{In}
+use Rattle.point_lists.specs.Sets.{In}
+use Rattle.point_lists.proofs.Sets.{none-of}
 use Rattle.disks.specs.Procedure.{diskOf}
 use Rattle.disks.proofs.Lifted.{Lifted, squaredRadius}
-use Rattle.disks.proofs.Minimal.{none-of}
 use Rattle.disks.proofs.Limits.{Box, BoxLimits, box-limits}
 use Rattle.disks.proofs.Base.{positive-two}
 use Rattle.disks.proofs.Weight.{run-weight}

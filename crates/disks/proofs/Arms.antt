@@ -14,7 +14,7 @@ use Rattle.integers.proofs.Abs.{zero-product}
 use Rattle.integers.proofs.Ring.{ring, poly, linear, eqn, _&_}
 use Rattle.integers.proofs.Order.{≤-of-<, ≤-antisym, ≤-or-<, positive, clash, le, lt, eq, nn, _⊞_, _⊠_, sum-squares-zero}
 use Rattle.geometry.specs.declared.Point.{Point}
-use Rattle.disks.proofs.Base.{point-path}
+use Rattle.point_lists.proofs.Sets.{point-path}
 
 abbrev pub dot : Point → Point → ℤ
 dot a b = a .x *ℤ b .x +ℤ a .y *ℤ b .y

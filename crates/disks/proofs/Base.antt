@@ -13,11 +13,9 @@ use lib.Signed.{_≤ℤ_, _<ℤ_}
 use Rattle.integers.proofs.Ring.{ring, poly, linear, eqn, _&_}
 use Rattle.integers.proofs.Order.{≤-of-eq, ≤-of-<, positive, nonneg-by, le, eq, nn, _⊞_, _⊠_, <-≤-clash, ≡-cancel, lt}
 use Rattle.geometry.specs.declared.Point.{Point}
+use Rattle.point_lists.proofs.Sets.{none-of, also}
 use Rattle.disks.proofs.Lifted.{Lifted, value, gap}
-use Rattle.disks.proofs.Minimal.{none-of, also, StronglyMinimal}
-
-pub point-path : {p q : Point} → p .x ≡ q .x → p .y ≡ q .y → p ≡ q
-point-path a b = λ i. record { x = a i; y = b i }
+use Rattle.disks.proofs.Minimal.{StronglyMinimal}
 
 -- ---- one point
 

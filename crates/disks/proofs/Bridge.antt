@@ -23,12 +23,12 @@ use Rattle.integers.proofs.Order.{positive, lt, eq, nn, _⊞_, _⊠_, <-cancel}
 use Rattle.geometry.specs.declared.Point.{Point}
 use Rattle.geometry.specs.declared.Disk.{Disk}
 use Rattle.geometry.specs.Plane.{distance, holds}
+use Rattle.point_lists.specs.Sets.{Different}
 use Rattle.disks.specs.Procedure.{Cover, empty, disk, outside, lowestTerms, pointDisk, diameterDisk, turnedBy, circle, boundaryDisk, State, tested, step, through, start, run, norm, diskIn, diskOf, testsOf, orderOf}
 use Rattle.disks.proofs.Lifted.{Lifted, value, squaredRadius}
 use Rattle.disks.proofs.Minimal.{Feasible, StronglyMinimal}
 use Rattle.disks.proofs.Base as B
 use Rattle.disks.proofs.Triple as C
-use Rattle.disks.proofs.Triple.{Different}
 use Rattle.disks.proofs.LiftedProcedure as L
 use Rattle.disks.proofs.Correct.{Found, found, nothing, base-found, full-found, Ran, turn-ran, inner-feasible, inner-different, feasible-front, next, run-ran, large-feasible, mtf-strong}
 use Rattle.disks.proofs.Support.{Supported, one, two, three, support}

@@ -14,10 +14,12 @@ use lib.Dec as D
 use lib.ListN.{length}
 use Rattle.geometry.specs.declared.Point.{Point}
 use Rattle.geometry.specs.Order.{before}
+use Rattle.point_lists.specs.Rising.{Rising}
+use Rattle.point_lists.specs.Sets.{In}
+use Rattle.point_lists.proofs.Sets.{also}
+use Rattle.point_lists.proofs.Order.{before-trans, before-not-equal}
 use Rattle.disks.specs.Support.{fronted, choose}
-use Rattle.disks.specs.FirstSupport.{Rising, Lexical, here, there}
-use Rattle.disks.proofs.Minimal.{In, also}
-use Rattle.disks.proofs.Rising.{before-trans, before-not-equal}
+use Rattle.disks.specs.FirstSupport.{Lexical, here, there}
 
 abbrev pub Among : List Point → List (List Point) → Type 0
 Among T cs = List·Memᴰ T cs

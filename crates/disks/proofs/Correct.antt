@@ -19,10 +19,12 @@ use lib.Signed.{_≤ℤ_, _<ℤ_, ltZ, ltZ-no}
 use Rattle.integers.proofs.Ring.{poly}
 use Rattle.integers.proofs.Order.{≤-of-eq, ≤-trans, nonneg, nn, sq, le, _⊞_, <-≤-clash}
 use Rattle.geometry.specs.declared.Point.{Point}
+use Rattle.point_lists.specs.Sets.{In, Same, Different}
+use Rattle.point_lists.proofs.Sets.{same-sym}
 use Rattle.disks.proofs.Lifted.{Lifted, value, noDisk, value-none}
-use Rattle.disks.proofs.Minimal.{In, Feasible, StronglyMinimal, Below, Same, same-sym, feasible-same, strong-same, strong-below, none-below, through, to-boundary, step, held}
+use Rattle.disks.proofs.Minimal.{Feasible, StronglyMinimal, Below, feasible-same, strong-same, strong-below, none-below, through, to-boundary, step, held}
 use Rattle.disks.proofs.Base.{point-strong, pair-strong, positive-one}
-use Rattle.disks.proofs.Triple.{Different, triple-strong}
+use Rattle.disks.proofs.Triple.{triple-strong}
 use Rattle.disks.proofs.LiftedProcedure.{State, boundaryForm, outside, tested, turn-at, one-by-one, start, runWith, run, mtf, most}
 use Rattle.disks.proofs.Lists.{perm-same, perm-length, last-first}
 

@@ -16,16 +16,22 @@ use Prim.Native.Nat.{ℕ, suc, _≤_}
 use native.Mathlib.Omega.{arith}
 use lib.Dec.{T, eqb, eqb→eq, eqb-refl}
 use lib.ListN.{length}
-use Rattle.integers.proofs.Tests.{and-left, and-right}
+use Rattle.integers.proofs.Tests.{and-left, and-right, and-both}
+use Rattle.integers.proofs.Order.{eqZ-eq, eq-eqZ}
+use Rattle.integers.specs.Order.{eqZ}
 use Rattle.geometry.specs.declared.Point.{Point}
 use Rattle.geometry.specs.declared.Disk.{Disk}
-use Rattle.disks.specs.Smallest.{In, Same, Smallest}
+use Rattle.point_lists.specs.Sets.{In, Same}
+use Rattle.point_lists.specs.Rising.{sorted, Rising}
+use Rattle.point_lists.proofs.Sets.{same-refl, same-sym}
+use Rattle.point_lists.proofs.Order.{before-trans, before-not-equal}
+use Rattle.point_lists.proofs.Rising.{sorted-rises, sorted-same, sorted-length}
+use Rattle.disks.specs.Smallest.{Smallest}
 use Rattle.disks.specs.Procedure.{diskOf}
-use Rattle.integers.specs.Order.{eqZ}
-use Rattle.disks.specs.Support.{sorted, choose, sameDisk, supports, firstOf, firstSupport}
+use Rattle.disks.specs.Support.{choose, sameDisk, supports, firstOf, firstSupport}
 pub use Rattle.disks.specs.Support.{candidates}
-use Rattle.disks.specs.FirstSupport.{Rising, IsSupport, Lexical, here, there, Earlier, fewer, lexical, IsFirstSupport}
-use Rattle.disks.proofs.Minimal.{same-refl, same-sym, strong-same}
+use Rattle.disks.specs.FirstSupport.{IsSupport, Lexical, here, there, Earlier, fewer, lexical, IsFirstSupport}
+use Rattle.disks.proofs.Minimal.{strong-same}
 use Rattle.disks.proofs.LiftedProcedure.{mtf}
 use Rattle.disks.proofs.Correct.{mtf-strong}
 use Rattle.disks.proofs.Support.{SupportSet, Supported, one, two, three, support}
@@ -33,8 +39,6 @@ use Rattle.disks.proofs.Bridge.{strong-written, diskOf-lowered}
 use Rattle.disks.proofs.StrongSmallest.{strong-smallest}
 use Rattle.disks.proofs.OneWriting.{smallest-same}
 use Rattle.disks.proofs.Welzl.{smallest}
-use Rattle.disks.proofs.Rising.{both, before-trans, before-not-equal, sorted-rises, sorted-same, sorted-length}
-use Rattle.integers.proofs.Order.{eqZ-eq, eq-eqZ}
 use Rattle.disks.proofs.Choose.{Among, choose-length, choose-in, choose-rises, choose-all, Later, later-append, choose-lexical}
 
 -- ---- the order of sets
@@ -83,9 +87,9 @@ same-disk-eq c d t = λ i. record {
 
 same-disk-refl : (d : Disk) → T (sameDisk d d)
 unfolding sameDisk
-same-disk-refl d = both (eqZ (d .x) (d .x)) (eqZ (d .y) (d .y) && (eqb (d .e) (d .e) && eqb (d .s) (d .s))) (eq-eqZ (d .x) (d .x) refl)
-    (both (eqZ (d .y) (d .y)) (eqb (d .e) (d .e) && eqb (d .s) (d .s)) (eq-eqZ (d .y) (d .y) refl)
-    (both (eqb (d .e) (d .e)) (eqb (d .s) (d .s)) (eqb-refl (d .e)) (eqb-refl (d .s))))
+same-disk-refl d = and-both (eqZ (d .x) (d .x)) (eqZ (d .y) (d .y) && (eqb (d .e) (d .e) && eqb (d .s) (d .s))) (eq-eqZ (d .x) (d .x) refl)
+    (and-both (eqZ (d .y) (d .y)) (eqb (d .e) (d .e) && eqb (d .s) (d .s)) (eq-eqZ (d .y) (d .y) refl)
+    (and-both (eqb (d .e) (d .e)) (eqb (d .s) (d .s)) (eqb-refl (d .e)) (eqb-refl (d .s))))
 
 no-points : 1 ≤ 0 → ⊥
 no-points h = omega arith

@@ -15,8 +15,9 @@ use lib.Signed.{_≤ℤ_, _<ℤ_, ltZ}
 use Rattle.integers.proofs.Ring.{ring, poly}
 use Rattle.integers.proofs.Order.{≤-of-<, ≤-or-<, nonneg, positive, clash, le, lt, sq, nn, _⊞_, _⊠_}
 use Rattle.geometry.specs.declared.Point.{Point}
+use Rattle.point_lists.specs.Sets.{In}
 use Rattle.disks.proofs.Lifted.{Lifted, value, gap, combine, value-combine, gap-combine, gap-self, squaredRadius}
-use Rattle.disks.proofs.Minimal.{In, Feasible, StronglyMinimal}
+use Rattle.disks.proofs.Minimal.{Feasible, StronglyMinimal}
 use Rattle.disks.proofs.Base.{positive-one}
 use Rattle.disks.proofs.Triple.{turn, turned, circle, tripleDisk}
 use Rattle.disks.specs.Smallest.{RationalDisk, Fits}

@@ -8,7 +8,7 @@ use mathlib.Core.List.{List, [], _∷_, _++_, List·Memᴰ·head, List·Memᴰ·
 use Prim.Native.Nat.{suc}
 use lib.ListN.{length}
 use Rattle.geometry.specs.declared.Point.{Point}
-use Rattle.disks.proofs.Minimal.{In, Same}
+use Rattle.point_lists.specs.Sets.{In, Same}
 
 over-head : {a b x : Point} {l m : List Point} → a ≡ b → (In x l → In x m) → (x ≡ a) ⊎ In x l → In x (b ∷ m)
 over-head e f (inl h) = List·Memᴰ·head (h ∙ e)

@@ -3,33 +3,21 @@
 --   Feasible P R F         == F is a disk that holds each point of P and has each point of R on its boundary
 --   StronglyMinimal P R F  == F is feasible, and gap F G is not negative for every feasible G: F is the smallest, and no other is
 --   Below P R F            == what the step asks of the disk found so far; the empty disk has it too
---   none-of, also          == a fact of each member of a list, put together
 --   strong-below, none-below    : a strongly minimal disk is below; the empty disk is
 --   to-boundary                 : a point outside goes to the boundary: a disk feasible for (P, R + p)
 --   step                   : the strongly minimal disk of (P, R + p) is that of (P + p, R), if p was outside
 --   held                   : a point that is held changes nothing
 --   strong-same, feasible-same  : all this depends on the members alone
 use mathlib.Core.Path.{_≡_, refl, sym, _∙_, ap, subst}
-use mathlib.Core.Logic.{_⊎_, inl, inr}
-use mathlib.Core.List.{List, [], _∷_, List·Memᴰ·head, List·Memᴰ·tail, List·Memᴰ·cases-cons, List·Memᴰ·not-nil}
+use mathlib.Core.List.{List, [], _∷_, List·Memᴰ·head, List·Memᴰ·tail}
 use lib.IntN.{ℤ, pos, negsuc, negℤ, _+ℤ_, _*ℤ_}
 use lib.Signed.{_≤ℤ_, _<ℤ_}
 use Rattle.integers.proofs.Ring.{ring, poly}
 use Rattle.integers.proofs.Order.{≤-of-eq, ≤-of-<, nonneg, positive, nonneg-by, le, lt, eq, sq, nn, _⊞_, _⊠_}
 use Rattle.geometry.specs.declared.Point.{Point}
-pub use Rattle.disks.specs.Smallest.{In, Same}
+use Rattle.point_lists.specs.Sets.{In, Same}
+use Rattle.point_lists.proofs.Sets.{none-of, also, same-sym}
 use Rattle.disks.proofs.Lifted.{Lifted, value, gap, combine, noDisk, apart-x, apart-y, value-combine, gap-combine, gap-both, gap-none}
-
--- what holds of each point of a list, put together
-pub none-of : (Z : Point → Type 0) (p : Point) → In p [] → Z p
-none-of Z p m = absurd (List·Memᴰ·not-nil m)
-
-pub also : (Z : Point → Type 0) {a : Point} {l : List Point} → Z a → ((p : Point) → In p l → Z p) → (p : Point) → In p (a ∷ l) → Z p
-also Z {a} {l} z h p m = go (List·Memᴰ·cases-cons m)
-  where
-    go : (p ≡ a) ⊎ In p l → Z p
-    go (inl e) = subst Z (sym e) z
-    go (inr k) = h p k
 
 pub record Feasible (P R : List Point) (F : Lifted) : Type 0 where
   pub proper : pos 0 <ℤ F .e
@@ -47,15 +35,6 @@ pub record Below (P R : List Point) (F : Lifted) : Type 0 where
   pub under : (G : Lifted) → Feasible P R G → gap G F ≤ℤ pos 0
 
 -- ---- the members
-
-pub same-refl : (P : List Point) → Same P P
-same-refl P = record { to = λ p m. m; from = λ p m. m }
-
-pub same-sym : {P Q : List Point} → Same P Q → Same Q P
-same-sym s = record { to = s .from; from = s .to }
-
-pub same-trans : {P Q S : List Point} → Same P Q → Same Q S → Same P S
-same-trans s t = record { to = λ p m. t .to p (s .to p m); from = λ p m. s .from p (t .from p m) }
 
 pub feasible-same : {P Q R : List Point} {F : Lifted} → Same P Q → Feasible P R F → Feasible Q R F
 feasible-same s f = record { proper = f .proper; holds = λ p m. f .holds p (s .from p m); on-boundary = f .on-boundary }

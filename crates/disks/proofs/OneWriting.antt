@@ -14,8 +14,9 @@ use Rattle.integers.proofs.Order.{≤-antisym, nonneg, le, sq, _⊠_, ≡-cance
 use Rattle.geometry.specs.declared.Point.{Point}
 use Rattle.geometry.specs.declared.Disk.{Disk}
 use Rattle.geometry.specs.Plane.{distance, holds}
-use Rattle.disks.specs.Smallest.{Same, RationalDisk, Fits, SmallestWith}
-use Rattle.disks.proofs.Minimal.{same-sym}
+use Rattle.point_lists.specs.Sets.{Same}
+use Rattle.point_lists.proofs.Sets.{same-sym}
+use Rattle.disks.specs.Smallest.{RationalDisk, Fits, SmallestWith}
 use Rattle.disks.proofs.Base.{positive-not-zero}
 use Rattle.disks.proofs.StrongSmallest.{some-positive}
 

@@ -13,9 +13,10 @@ use Rattle.integers.proofs.Ring.{poly, linear, eqn, _&_}
 use Rattle.integers.proofs.Order.{≡-cancel, ≤-of-eq, nonneg, le}
 use Rattle.geometry.specs.declared.Point.{Point}
 use Rattle.geometry.specs.declared.Disk.{Disk}
+use Rattle.point_lists.proofs.Sets.{none-of, also, same-refl}
 use Rattle.disks.specs.Smallest.{Smallest}
 use Rattle.disks.proofs.Lifted.{Lifted, value, squaredRadius}
-use Rattle.disks.proofs.Minimal.{none-of, also, same-refl, StronglyMinimal}
+use Rattle.disks.proofs.Minimal.{StronglyMinimal}
 use Rattle.disks.proofs.Base.{Multiple, pointDisk, point-value, point-gap, positive-not-zero, positive-one}
 use Rattle.disks.proofs.Weights.{one-strong, two-strong}
 use Rattle.disks.proofs.Unique.{strong-unique, strong-multiple}

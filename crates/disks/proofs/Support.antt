@@ -13,9 +13,10 @@ use lib.Signed.{_≤ℤ_, _<ℤ_}
 use Rattle.integers.proofs.Ring.{ring, poly}
 use Rattle.integers.proofs.Order.{≤-of-eq, sq, nn, _⊞_, <-≤-clash, clash, lt, eq, Compared, less, same, more, compared, sum-squares-zero}
 use Rattle.geometry.specs.declared.Point.{Point}
+use Rattle.point_lists.specs.Sets.{In, Different}
+use Rattle.point_lists.proofs.Sets.{none-of, also}
 use Rattle.disks.proofs.Lifted.{Lifted, value, squaredRadius}
-use Rattle.disks.proofs.Minimal.{In, none-of, also, StronglyMinimal}
-use Rattle.disks.proofs.Triple.{Different}
+use Rattle.disks.proofs.Minimal.{StronglyMinimal}
 use Rattle.disks.proofs.Arms.{cross, Opposite, cross-self}
 use Rattle.disks.proofs.Cone.{Cone, Placed, opposite, around, cone, placed}
 use Rattle.disks.proofs.Weights.{arm, boundary-length, one-strong, two-strong, three-strong, no-side}

@@ -3,13 +3,13 @@
 --   outside-holds      : for a disk, `outside` is document 01's inequality turned round
 --   outside-relative   : for a disk relative to a boundary point q it is |d|²·E > 2(d·g), d = p − q
 --   outside-none       : the empty disk has every point outside
---   same-test, same-ltZ : two tests are equal where each passes if the other does
-use mathlib.Core.Path.{_≡_, refl, _∙_, ap}
-use mathlib.Core.Bool.{Bool, true, false}
+--   same-ltZ           : two tests of `<` are equal where each passes if the other does
+use mathlib.Core.Path.{_≡_, _∙_, ap}
+use mathlib.Core.Bool.{true}
 use mathlib.Core.List.{[], _∷_}
 use lib.IntN.{ℤ, pos, negsuc, _+ℤ_, _-ℤ_, _*ℤ_}
-use lib.Dec.{T}
 use lib.Signed.{_<ℤ_, ltZ}
+use Rattle.integers.proofs.Tests.{same-test}
 use Rattle.integers.proofs.Ring.{ring, poly}
 use Rattle.integers.proofs.Order.{positive, lt, eq, _⊞_, _⊠_, <-cancel}
 use Rattle.geometry.specs.declared.Point.{Point}
@@ -17,12 +17,6 @@ use Rattle.disks.proofs.Lifted.{Lifted, value, squaredRadius, noDisk, v
 use Rattle.disks.proofs.Base.{difference-positive}
 use Rattle.disks.proofs.Relative.{relative, relative-value}
 use Rattle.disks.proofs.LiftedProcedure.{outside}
-
-pub same-test : (a b : Bool) → (T a → T b) → (T b → T a) → a ≡ b
-same-test true true f g = refl
-same-test true false f g = absurd (f tt)
-same-test false true f g = absurd (g tt)
-same-test false false f g = refl
 
 pub same-ltZ : (a b c d : ℤ) → (a <ℤ b → c <ℤ d) → (c <ℤ d → a <ℤ b) → ltZ a b ≡ ltZ c d
 same-ltZ a b c d f g = same-test (ltZ a b) (ltZ c d) (λ t. f (record { lt = t }) .lt) (λ t. g (record { lt = t }) .lt)

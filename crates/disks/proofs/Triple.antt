@@ -17,10 +17,11 @@ use Rattle.integers.proofs.Abs.{zero-product}
 use Rattle.integers.proofs.Ring.{ring, poly, linear, eqn, _&_}
 use Rattle.integers.proofs.Order.{≤-of-eq, positive, lt, nn, <-≤-clash, Compared, less, same, more, compared, sum-squares-zero}
 use Rattle.geometry.specs.declared.Point.{Point}
-pub use Rattle.disks.specs.Smallest.{Different}
+use Rattle.point_lists.specs.Sets.{Different, In}
+use Rattle.point_lists.proofs.Sets.{none-of, also, point-path}
 use Rattle.disks.proofs.Lifted.{Lifted, value}
-use Rattle.disks.proofs.Minimal.{In, none-of, also, Feasible, StronglyMinimal}
-use Rattle.disks.proofs.Base.{Multiple, multiple-value, multiple-no-gap, holds-by, positive-not-zero, point-path}
+use Rattle.disks.proofs.Minimal.{Feasible, StronglyMinimal}
+use Rattle.disks.proofs.Base.{Multiple, multiple-value, multiple-no-gap, holds-by, positive-not-zero}
 
 -- ---- the form
 

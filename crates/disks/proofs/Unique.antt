@@ -11,8 +11,9 @@ use Rattle.integers.proofs.Laws.{eq-of-sub}
 use Rattle.integers.proofs.Ring.{ring, poly, linear, eqn, _&_}
 use Rattle.integers.proofs.Order.{≤-of-<, ≤-antisym, nonneg, positive, nonneg-by, le, lt, eq, sq, nn, _⊞_, _⊠_, sum-squares-zero, ≡-cancel}
 use Rattle.geometry.specs.declared.Point.{Point}
+use Rattle.point_lists.proofs.Sets.{also}
 use Rattle.disks.proofs.Lifted.{Lifted, value, gap, combine, apart-x, apart-y, gap-both, gap-self, value-combine, gap-combine}
-use Rattle.disks.proofs.Minimal.{also, Feasible, StronglyMinimal}
+use Rattle.disks.proofs.Minimal.{Feasible, StronglyMinimal}
 use Rattle.disks.proofs.Base.{Multiple, multiple-value, holds-by, positive-not-zero, positive-two}
 
 -- ---- unique

@@ -12,7 +12,8 @@ use lib.Signed.{_≤ℤ_, _<ℤ_}
 use Rattle.integers.proofs.Ring.{poly}
 use Rattle.integers.proofs.Order.{≤-of-<, nonneg, lt, nn, _⊞_, _⊠_}
 use Rattle.geometry.specs.declared.Point.{Point}
-use Rattle.disks.proofs.Minimal.{In, none-of, also}
+use Rattle.point_lists.specs.Sets.{In}
+use Rattle.point_lists.proofs.Sets.{none-of, also}
 use Rattle.disks.proofs.Limits.{Box, triple-weight}
 use Rattle.disks.proofs.LiftedProcedure.{State, boundaryForm, outside, tested, turn-at, one-by-one, start, runWith}
 

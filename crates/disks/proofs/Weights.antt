@@ -14,8 +14,10 @@ use lib.Signed.{_≤ℤ_, _<ℤ_}
 use Rattle.integers.proofs.Ring.{ring, poly, linear, eqn}
 use Rattle.integers.proofs.Order.{≤-of-eq, ≤-of-<, nonneg, positive, nonneg-by, clash, le, lt, eq, sq, nn, _⊞_, _⊠_, <-≤-clash, Compared, less, same, more, compared}
 use Rattle.geometry.specs.declared.Point.{Point}
+use Rattle.point_lists.specs.Sets.{In}
+use Rattle.point_lists.proofs.Sets.{none-of, also}
 use Rattle.disks.proofs.Lifted.{Lifted, value, squaredRadius, gap, combine, apart-x, apart-y, value-combine, gap-combine, gap-self}
-use Rattle.disks.proofs.Minimal.{In, none-of, also, Feasible, StronglyMinimal}
+use Rattle.disks.proofs.Minimal.{Feasible, StronglyMinimal}
 use Rattle.disks.proofs.Base.{positive-one, positive-two}
 use Rattle.disks.proofs.Arms.{dot, cross, Opposite}
 

@@ -13,9 +13,11 @@ use Prim.Native.Nat.{ℕ, _+_, _-_, _*_, _≤_}
 use native.Mathlib.Omega.{arith}
 use lib.ListN.{length}
 use Rattle.geometry.specs.declared.Point.{Point}
-use Rattle.disks.specs.Smallest.{Same, Different, RationalDisk, Fits, SmallestWith, Smallest}
+use Rattle.point_lists.specs.Sets.{Same, Different}
+use Rattle.point_lists.proofs.Sets.{same-refl}
+use Rattle.disks.specs.Smallest.{RationalDisk, Fits, SmallestWith, Smallest}
 use Rattle.disks.specs.Procedure.{Cover, disk, State, boundaryDisk, mtf, mtf-empty, diskIn, diskOf, testsOf, orderOf}
-use Rattle.disks.proofs.Minimal.{same-refl, StronglyMinimal}
+use Rattle.disks.proofs.Minimal.{StronglyMinimal}
 use Rattle.disks.proofs.LiftedProcedure as L
 use Rattle.disks.proofs.Correct.{run-strong, mtf-ran, mtf-strong}
 use Rattle.disks.proofs.Count.{mtf-count}

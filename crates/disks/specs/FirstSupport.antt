@@ -1,6 +1,5 @@
 -- The first support set, as a property of sets (01, "Disk and rim": a rim set, and the first).
 --
---   Rising S           == each point of S comes before all later ones
 --   IsSupport P S      == S is a support set of P (01: a rim set), written in rising order: one to three different points of P whose
 --                         own smallest disk is that of P
 --   Lexical S R        == compared point by point: where S and R first differ, S has the point that comes before
@@ -8,18 +7,16 @@
 --   IsFirstSupport P S == S is a support set of P, and every other one comes later
 use mathlib.Core.Path.{_≡_}
 use mathlib.Core.Logic.{_⊎_}
-use mathlib.Core.List.{List, [], _∷_}
+use mathlib.Core.List.{List, _∷_}
 use Prim.Native.Nat.{_≤_, _<_}
 use lib.Dec.{T}
 use lib.ListN.{length}
 use Rattle.geometry.specs.declared.Point.{Point}
 use Rattle.geometry.specs.declared.Disk.{Disk}
-use Rattle.disks.specs.Smallest.{In, Smallest}
 use Rattle.geometry.specs.Order.{before}
-
-abbrev pub Rising : List Point → Type 0
-Rising [] = Unit {0}
-Rising (p ∷ l) = ((q : Point) → In q l → T (before p q)) × Rising l
+use Rattle.point_lists.specs.Sets.{In}
+use Rattle.point_lists.specs.Rising.{Rising}
+use Rattle.disks.specs.Smallest.{Smallest}
 
 pub record IsSupport (P S : List Point) : Type 0 where
   pub rises : Rising S

@@ -5,11 +5,8 @@
 --   SmallestWith P R d     == d fits (P, R), no rational disk that does has a smaller squared radius, only the same disk has an equal
 --                             one, and d is written without a common divisor of X, Y and E
 --   Smallest P d           == d is the smallest disk that holds P
---   In p P                 == p is one of P
---   Same P Q               == P and Q name the same set of points
---   Different R            == no point stands twice in R
 use mathlib.Core.Path.{_≡_}
-use mathlib.Core.List.{List, [], _∷_, List·Memᴰ}
+use mathlib.Core.List.{List, []}
 use Prim.Native.Nat.{ℕ, _*_, _≤_}
 use lib.Dec.{T}
 use lib.IntN.{ℤ, pos, _+ℤ_, _-ℤ_, _*ℤ_}
@@ -18,17 +15,7 @@ use Rattle.integers.specs.Order.{_≼_}
 use Rattle.geometry.specs.declared.Point.{Point}
 use Rattle.geometry.specs.declared.Disk.{Disk}
 use Rattle.geometry.specs.Plane.{holds, onBoundary}
-
-abbrev pub In : Point → List Point → Type 0
-In p P = List·Memᴰ p P
-
-pub record Same (P Q : List Point) : Type 0 where
-  pub to : (p : Point) → In p P → In p Q
-  pub from : (p : Point) → In p Q → In p P
-
-abbrev pub Different : List Point → Type 0
-Different [] = Unit {0}
-Different (p ∷ R) = (In p R → ⊥) × Different R
+use Rattle.point_lists.specs.Sets.{In}
 
 pub record RationalDisk : Type 0 where
   pub x : ℤ

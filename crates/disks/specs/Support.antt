@@ -1,6 +1,5 @@
 -- The first support set of a list (01, "Disk and rim": the first rim set).
 --
---   sorted P          == the different points of P in rising order
 --   choose k Q        == the sets of k points of Q, each in Q's order, in lexical order
 --   candidates Q      == the sets of one point of Q, then of two, then of three
 --   supports P T      == T's own smallest disk is that of P (01: T is a rim set of P)
@@ -10,25 +9,11 @@ use mathlib.Core.Bool.{Bool, true, false, _&&_}
 use mathlib.Core.List.{List, [], _∷_, _++_}
 use Prim.Native.Nat.{ℕ, zero, suc}
 use lib.Dec.{eqb}
+use Rattle.integers.specs.Order.{eqZ}
 use Rattle.geometry.specs.declared.Point.{Point}
 use Rattle.geometry.specs.declared.Disk.{Disk}
-use Rattle.integers.specs.Order.{eqZ}
-use Rattle.geometry.specs.Order.{before}
+use Rattle.point_lists.specs.Rising.{sorted}
 use Rattle.disks.specs.Procedure.{diskOf}
-
--- p in its place in a rising list; one that is there already is not put in again
-unfoldable pub insert : Point → List Point → List Point
-insert p [] = p ∷ []
-insert p (q ∷ l) = place (before p q) (before q p) (insert p l)
-  where
-    place : Bool → Bool → List Point → List Point
-    place true b m = p ∷ q ∷ l
-    place false true m = q ∷ m
-    place false false m = q ∷ l
-
-unfoldable pub sorted : List Point → List Point
-sorted [] = []
-sorted (p ∷ P) = insert p (sorted P)
 
 -- p in front of each set
 unfoldable pub fronted : Point → List (List Point) → List (List Point)

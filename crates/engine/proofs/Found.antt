@@ -13,7 +13,7 @@ use Rattle.geometry.specs.EmBox.{allInEmBox}
 use Rattle.geometry.specs.Points.{points, flat}
 use Rattle.geometry.proofs.EmBox.{box-members, members-box}
 use Rattle.geometry.proofs.PointLists.{points-of-flat}
-use Rattle.disks.specs.Smallest.{Same}
+use Rattle.point_lists.specs.Sets.{Same}
 use Rattle.disks.specs.Procedure.{diskOf, orderOf}
 use Rattle.disks.specs.Support.{firstSupport}
 use Rattle.disks.proofs.Lists.{perm-same}

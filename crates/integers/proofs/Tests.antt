@@ -1,6 +1,7 @@
 -- Tests of order and rows of tests, for contracts that answer a Bool.
 --
 --   and-left, and-right  : the two tests of a row that holds
+--   and-both             : two tests that hold, in a row, as `T`
 --   both                 : two tests that hold, in a row
 --   last-test            : a row that ends in `true` ends in the test before it
 --   same-test            : two tests that hold in the same cases are equal
@@ -46,6 +47,10 @@ and-left false b t = t
 pub and-right : (a b : Bool) → T (a && b) → T b
 and-right true b t = t
 and-right false b t = absurd t
+
+pub and-both : (a b : Bool) → T a → T b → T (a && b)
+and-both true b s t = t
+and-both false b s t = s
 
 pub both : {a b : Bool} → a ≡ true → b ≡ true → a && b ≡ true
 both h k = sym (pass h (sym k))

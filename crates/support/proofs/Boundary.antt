@@ -1,5 +1,6 @@
 -- The points of a list on a disk's boundary.
 --
+--   boundaryOf d P            == the points of P on d's boundary
 --   boundary-on, boundary-off : they are those of the list without its first point, and that point where it is on the boundary
 --   boundary-in, in-boundary  : they are the points of the list that pass the test
 use mathlib.Core.Path.{_≡_, refl, sym, _∙_, ap, subst}
@@ -9,8 +10,16 @@ use mathlib.Core.List.{List, [], _∷_, List·Memᴰ·head, List·Memᴰ·tail, 
 use lib.Dec.{T}
 use Rattle.geometry.specs.declared.Point.{Point}
 use Rattle.geometry.specs.declared.Disk.{Disk}
-use Rattle.disks.specs.Smallest.{In}
-use Rattle.support.specs.Search.{onBoundaryTest, boundaryOf}
+use Rattle.point_lists.specs.Sets.{In}
+use Rattle.support_tests.specs.Tests.{onBoundaryTest}
+
+unfoldable pub boundaryOf : Disk → List Point → List Point
+boundaryOf d [] = []
+boundaryOf d (p ∷ P) = keep (onBoundaryTest d p) (boundaryOf d P)
+  where
+    keep : Bool → List Point → List Point
+    keep true Q = p ∷ Q
+    keep false Q = Q
 
 module _ (d : Disk) where
   boundary-on : (q : Point) (P : List Point) → onBoundaryTest d q ≡ true → boundaryOf d (q ∷ P) ≡ q ∷ boundaryOf d P
@@ -29,7 +38,8 @@ module _ (d : Disk) where
       later : In x P × T (onBoundaryTest d x) → In x (q ∷ P) × T (onBoundaryTest d x)
       later h = (List·Memᴰ·tail (h .0), h .1)
 
-      here : onBoundaryTest d q ≡ true → (In x (boundaryOf d P) → In x P × T (onBoundaryTest d x)) → (x ≡ q) ⊎ In x (boundaryOf d P) → In x (q ∷ P) × T (onBoundaryTest d x)
+      here : onBoundaryTest d q ≡ true → (In x (boundaryOf d P) → In x P × T (onBoundaryTest d x)) → (x ≡ q) ⊎ In x (boundaryOf d P)
+          → In x (q ∷ P) × T (onBoundaryTest d x)
       here e f (inl k) = (List·Memᴰ·head k, subst T (sym (ap (onBoundaryTest d) k ∙ e)) tt)
       here e f (inr j) = later (f j)
 

@@ -19,13 +19,18 @@ use Rattle.integers.proofs.Ring.{poly, linear, eqn, _&_}
 use Rattle.integers.proofs.Order.{≡-cancel}
 use Rattle.geometry.specs.declared.Point.{Point}
 use Rattle.geometry.specs.declared.Disk.{Disk}
-use Rattle.disks.specs.Smallest.{In, Smallest}
-use Rattle.geometry.specs.EmBox.{allInEmBox, WithinLimits}
+use Rattle.geometry.specs.EmBox.{em, allInEmBox, WithinLimits}
+use Rattle.geometry.proofs.EmBox.{box-members}
+use Rattle.point_lists.specs.Sets.{In}
+use Rattle.point_lists.specs.Rising.{sorted, Rising}
+use Rattle.point_lists.proofs.Sets.{none-of, also, same-refl}
+use Rattle.point_lists.proofs.Rising.{sorted-rises, sorted-same, sorted-length}
+use Rattle.disks.specs.Smallest.{Smallest}
 use Rattle.disks.specs.Procedure.{diskOf}
-use Rattle.disks.specs.Support.{sorted, candidates, firstOf, firstSupport}
-use Rattle.disks.specs.FirstSupport.{Rising, IsSupport, IsFirstSupport, Earlier, fewer, lexical}
+use Rattle.disks.specs.Support.{candidates, firstOf, firstSupport}
+use Rattle.disks.specs.FirstSupport.{IsSupport, IsFirstSupport, Earlier, fewer, lexical}
 use Rattle.disks.proofs.Lifted.{Lifted, value}
-use Rattle.disks.proofs.Minimal.{none-of, also, same-refl, StronglyMinimal, strong-same}
+use Rattle.disks.proofs.Minimal.{StronglyMinimal, strong-same}
 use Rattle.disks.proofs.Base.{Multiple, multiple-value, point-value, pairDisk, pair-first, pair-second, positive-one, positive-two, positive-not-zero}
 use Rattle.disks.proofs.LiftedProcedure.{mtf}
 use Rattle.disks.proofs.Correct.{mtf-strong}
@@ -37,14 +42,13 @@ use Rattle.disks.proofs.Own.{point-own, smallest-strong}
 use Rattle.disks.proofs.Acute.{pair-own, kind, Kind, side-bc, side-ac, side-ab, acute}
 use Rattle.disks.proofs.Support.{SupportSet, Supported, one, two, three, support}
 use Rattle.disks.proofs.OneWriting.{smallest-same}
-use Rattle.disks.proofs.Rising.{sorted-rises, sorted-same, sorted-length}
-use Rattle.disks.proofs.Answer.{limits}
+use Rattle.disks.proofs.Answer.{em-square, limits}
 use Rattle.disks.proofs.Choose.{Among}
 use Rattle.disks.proofs.First.{Passes, first-passes, Candidate, candidate, a-candidate, candidates-earlier, first-support, first-unique}
-use Rattle.support.specs.Search.{boundaryOf, fits, firstFit}
-use Rattle.geometry.proofs.EmBox.{box-members}
-use Rattle.support.proofs.Boundary.{boundary-in, in-boundary}
-use Rattle.support.proofs.SetTests.{on-value, value-on, one-strong, strong-one, two-strong, strong-two, three-strong, acute-three}
+use Rattle.support_tests.specs.Tests.{fits}
+use Rattle.support_tests.proofs.SetTests.{on-value, value-on, one-strong, strong-one, two-strong, strong-two, three-strong, acute-three}
+use Rattle.support_search.specs.Search.{firstFit}
+use Rattle.support.proofs.Boundary.{boundaryOf, boundary-in, in-boundary}
 
 -- ---- a set that passes
 
@@ -105,13 +109,20 @@ module _ (p : Point) (P : List Point) where
   passes-strong [] h t = absurd t
   passes-strong (a ∷ []) h t = one-strong proper w a (h a (List·Memᴰ·head refl)) t
   passes-strong (a ∷ b ∷ []) h t = two-strong proper w a b (h a (List·Memᴰ·head refl)) (h b (List·Memᴰ·tail (List·Memᴰ·head refl))) t
-  passes-strong (a ∷ b ∷ c ∷ []) h t = three-strong d a b c proper (h a (List·Memᴰ·head refl)) (h b (List·Memᴰ·tail (List·Memᴰ·head refl))) (h c (List·Memᴰ·tail (List·Memᴰ·tail (List·Memᴰ·head refl)))) t
+  passes-strong (a ∷ b ∷ c ∷ []) h t = three-strong d a b c proper (h a (List·Memᴰ·head refl)) (h b (List·Memᴰ·tail (List·Memᴰ·head refl)))
+      (h c (List·Memᴰ·tail (List·Memᴰ·tail (List·Memᴰ·head refl)))) t
   passes-strong (a ∷ b ∷ c ∷ e ∷ S) h t = absurd t
 
   -- ---- a set that has the disk as its own passes, or one with fewer points does
 
   one-passes : (a : Point) → Rising (a ∷ []) → ((x : Point) → In x (a ∷ []) → In x L) → StronglyMinimal (a ∷ []) [] F → Passing Q d (a ∷ [])
-  one-passes a r f m = record { set = a ∷ []; among = a-set (a ∷ []) r (also (λ x. In x Q) (to-Q a (f a (List·Memᴰ·head refl)) on) (none-of (λ x. In x Q))) (omega arith) (omega arith); passes = strong-one proper w a on m; size = inl refl }
+  one-passes a r f m = record {
+    set = a ∷ [];
+    among = a-set (a ∷ []) r
+        (also (λ x. In x Q) (to-Q a (f a (List·Memᴰ·head refl)) on) (none-of (λ x. In x Q))) (omega arith) (omega arith);
+    passes = strong-one proper w a on m;
+    size = inl refl;
+  }
     where
       on : value F a ≡ pos 0
       on = on-multiple a positive-one (strong-unique m (point-own a)) (point-value a)
@@ -119,7 +130,9 @@ module _ (p : Point) (P : List Point) where
   two-passes : (a b : Point) → Rising (a ∷ b ∷ []) → ((x : Point) → In x (a ∷ b ∷ []) → In x L) → StronglyMinimal (a ∷ b ∷ []) [] F → Passing Q d (a ∷ b ∷ [])
   two-passes a b r f m = record {
     set = a ∷ b ∷ [];
-    among = a-set (a ∷ b ∷ []) r (also (λ x. In x Q) (to-Q a (f a (List·Memᴰ·head refl)) on-a) (also (λ x. In x Q) (to-Q b (f b (List·Memᴰ·tail (List·Memᴰ·head refl))) on-b) (none-of (λ x. In x Q)))) (omega arith) (omega arith);
+    among = a-set (a ∷ b ∷ []) r
+        (also (λ x. In x Q) (to-Q a (f a (List·Memᴰ·head refl)) on-a)
+        (also (λ x. In x Q) (to-Q b (f b (List·Memᴰ·tail (List·Memᴰ·head refl))) on-b) (none-of (λ x. In x Q)))) (omega arith) (omega arith);
     passes = strong-two proper w a b on-a on-b m;
     size = inl refl;
   }
@@ -131,8 +144,11 @@ module _ (p : Point) (P : List Point) where
       on-b = on-multiple b positive-two (strong-unique m (pair-own a b)) (pair-second a b)
 
   -- the disk over two of three points: these two have it as their own
-  side-passes : (a b : Point) (R : List Point) → length R ≡ 3 → Rising (a ∷ b ∷ []) → ((x : Point) → In x (a ∷ b ∷ []) → In x L) → Multiple F (pairDisk a b) → Passing Q d R
-  side-passes a b R e r f u = let s = two-passes a b r f (strong-multiple (pair-own a b) proper (multiple-sym u)) in record { set = s .set; among = s .among; passes = s .passes; size = inr (smaller (s .set) (s .size)) }
+  side-passes : (a b : Point) (R : List Point) → length R ≡ 3 → Rising (a ∷ b ∷ []) → ((x : Point) → In x (a ∷ b ∷ []) → In x L)
+      → Multiple F (pairDisk a b) → Passing Q d R
+  side-passes a b R e r f u =
+      let s = two-passes a b r f (strong-multiple (pair-own a b) proper (multiple-sym u)) in
+      record { set = s .set; among = s .among; passes = s .passes; size = inr (smaller (s .set) (s .size)) }
     where
       smaller : (S : List Point) → (S ≡ a ∷ b ∷ []) ⊎ (length S < 2) → length S < length R
       smaller S (inl k) = omega (arith, ap length k)
@@ -140,8 +156,11 @@ module _ (p : Point) (P : List Point) where
 
   three-passes : (a b c : Point) → Rising (a ∷ b ∷ c ∷ []) → ((x : Point) → In x (a ∷ b ∷ c ∷ []) → In x L) → Kind a b c F → Passing Q d (a ∷ b ∷ c ∷ [])
   three-passes a b c r f (side-bc u) = side-passes b c (a ∷ b ∷ c ∷ []) refl (r .1) (λ x i. f x (List·Memᴰ·tail i)) u
-  three-passes a b c r f (side-ac u) = side-passes a c (a ∷ b ∷ c ∷ []) refl ((λ x i. r .0 x (List·Memᴰ·tail i)), r .1 .1) (also (λ x. In x L) (f a (List·Memᴰ·head refl)) (λ x i. f x (List·Memᴰ·tail (List·Memᴰ·tail i)))) u
-  three-passes a b c r f (side-ab u) = side-passes a b (a ∷ b ∷ c ∷ []) refl ((λ x i. r .0 x (in-front i)), ((λ x i. absurd (List·Memᴰ·not-nil i)), tt)) (also (λ x. In x L) (f a (List·Memᴰ·head refl)) (λ x i. f x (List·Memᴰ·tail (in-front i)))) u
+  three-passes a b c r f (side-ac u) = side-passes a c (a ∷ b ∷ c ∷ []) refl ((λ x i. r .0 x (List·Memᴰ·tail i)), r .1 .1)
+      (also (λ x. In x L) (f a (List·Memᴰ·head refl)) (λ x i. f x (List·Memᴰ·tail (List·Memᴰ·tail i)))) u
+  three-passes a b c r f (side-ab u) = side-passes a b (a ∷ b ∷ c ∷ []) refl
+      ((λ x i. r .0 x (in-front i)), ((λ x i. absurd (List·Memᴰ·not-nil i)), tt))
+      (also (λ x. In x L) (f a (List·Memᴰ·head refl)) (λ x i. f x (List·Memᴰ·tail (in-front i)))) u
   three-passes a b c r f (acute ha hb hc ka kb kc) = record {
     set = a ∷ b ∷ c ∷ [];
     among = a-set (a ∷ b ∷ c ∷ []) r (all-in-Q (a ∷ b ∷ c ∷ []) f (also On ha (also On hb (also On hc (none-of On))))) (omega arith) (omega arith);
@@ -171,7 +190,9 @@ module _ (p : Point) (P : List Point) where
   first-of R s = first-passes (fits d) (candidates Q) (candidates-earlier Q (sorted-rises (boundaryOf d L))) (s .set) (s .among) (s .passes)
 
   of-sorted : (S : List Point) → SupportSet L S F → (a : Point) → In a S → length S ≤ 3 → Passes (fits d) (candidates Q) found
-  of-sorted S s a i k = first-of (sorted S) (passing (sorted S) (sorted-rises S) (λ x j. s .members x (sorted-same S .from x j)) (not-empty (sorted S) (sorted-same S .to a i)) (omega (arith, sorted-length S, k)) (strong-same (sorted-same S) (s .own)))
+  of-sorted S s a i k = first-of (sorted S)
+      (passing (sorted S) (sorted-rises S) (λ x j. s .members x (sorted-same S .from x j)) (not-empty (sorted S) (sorted-same S .to a i))
+      (omega (arith, sorted-length S, k)) (strong-same (sorted-same S) (s .own)))
     where
       not-empty : (R : List Point) {x : Point} → In x R → 1 ≤ length R
       not-empty [] i = absurd (List·Memᴰ·not-nil i)
@@ -201,7 +222,9 @@ module _ (p : Point) (P : List Point) where
       whole = whole;
       own = strong-smallest (passes-strong found (λ x i. from-Q x (c .members x i) .1) (f .passes)) w;
     };
-    first = λ R s. let q = passing R (s .rises) (s .members) (s .some) (s .most) (own R s) in before-all R (q .set) found (q .size) (f .least (q .set) (q .among) (q .passes));
+    first = λ R s.
+        let q = passing R (s .rises) (s .members) (s .some) (s .most) (own R s) in
+        before-all R (q .set) found (q .size) (f .least (q .set) (q .among) (q .passes));
   }
     where
       f : Passes (fits d) (candidates Q) found
@@ -250,5 +273,5 @@ module _ (P : List Point) (some : 1 ≤ length P) (d : Disk) (is : d ≡ diskOf 
   pub e-some : 1 ≤ d .e
   e-some = by-point (λ d P. 1 ≤ d .e) (λ p P. written-some (proper p P) (w p P))
 
-  pub within-limits : allInEmBox P ≡ true → WithinLimits d
-  within-limits = by-point (λ d P. allInEmBox P ≡ true → WithinLimits d) (λ p P boxed. limits p P (box-members (p ∷ P) boxed))
+  pub within-limits : allInEmBox P ≡ true → WithinLimits em d
+  within-limits = by-point (λ d P. allInEmBox P ≡ true → WithinLimits em d) (λ p P boxed. limits em em-square p P (box-members (p ∷ P) boxed))

@@ -1,14 +1,13 @@
 -- The points that `collect` keeps: boundary points with a spanned x can be left out.
 --
 --   Kept d P Q          == Q rises, its points are points of P on d's boundary, and the others of these are spanned by points of Q
---   across-spans, opposite-swap : what two opposite points span, whichever comes first
 --   kept-none, kept-put, kept-spanned, kept-off : at the start, with a point put in, and with one left out
---   spanned-more        : what is spanned stays so with a point put in
 --   kept-finds          : the first set of Q that passes its test is the first support set of P
-use mathlib.Core.Path.{_≡_, sym, _∙_, ap, ap₂, subst}
+use mathlib.Core.Path.{_≡_, sym, _∙_, ap, subst}
 use mathlib.Core.Logic.{_⊎_, inl, inr}
-use mathlib.Core.Bool.{true, false, _&&_}
-use mathlib.Core.List.{List, [], _∷_, _++_, List·Memᴰ·head, List·Memᴰ·cases-cons, List·Memᴰ·append-cases, Memᴰ·append-left, Memᴰ·append-right, List·Memᴰ·not-nil, List·Memᴰ·eq-of-singleton}
+use mathlib.Core.Bool.{true, false}
+use mathlib.Core.List.{List, [], _∷_, _++_, List·Memᴰ·head, List·Memᴰ·cases-cons, List·Memᴰ·not-nil, List·Memᴰ·eq-of-singleton}
+use mathlib.Core.List.{List·Memᴰ·append-cases, Memᴰ·append-left, Memᴰ·append-right}
 use Prim.Native.Nat.{_≤_}
 use native.Mathlib.Omega.{arith}
 use lib.Dec.{T, eqb→eq}
@@ -16,27 +15,30 @@ use lib.IntN.{ℤ, pos, negsuc, _+ℤ_, _-ℤ_, _*ℤ_}
 use lib.ListN.{length}
 use lib.Signed.{_<ℤ_, _≤ℤ_}
 use Rattle.integers.proofs.Tests.{and-left}
-use Rattle.integers.proofs.Laws.{+-comm, eq-of-sub}
+use Rattle.integers.proofs.Order.{eqZ-eq, ≤-of-eq, ≤-of-<, <-≤-clash, <-trans, ≡-cancel, sum-squares-zero, nonneg, le, eq, _⊞_}
+use Rattle.integers.proofs.Laws.{eq-of-sub}
 use Rattle.integers.proofs.Ring.{poly, linear, eqn, _&_}
-use Rattle.integers.proofs.Order.{≤-of-eq, ≤-of-<, <-≤-clash, <-trans, ≡-cancel, sum-squares-zero, nonneg, le, eq, _⊞_, eqZ-eq}
 use Rattle.geometry.specs.declared.Point.{Point}
 use Rattle.geometry.specs.declared.Disk.{Disk}
 use Rattle.geometry.specs.Plane.{distance}
 use Rattle.geometry.specs.Order.{before}
-use Rattle.integers.specs.Order.{eqZ}
-use Rattle.disks.specs.Smallest.{In}
+use Rattle.point_lists.specs.Sets.{In}
+use Rattle.point_lists.specs.Rising.{insert, sorted, Rising}
+use Rattle.point_lists.proofs.Sets.{none-of, also}
+use Rattle.point_lists.proofs.Order.{ByCoordinates, by-x, by-y, by-coordinates, is-before}
+use Rattle.point_lists.proofs.Rising.{insert-in, insert-new, insert-old, insert-rises, sorted-rises, sorted-same}
 use Rattle.disks.specs.Procedure.{diskOf}
-use Rattle.disks.specs.Support.{insert, sorted, candidates, firstSupport}
-use Rattle.disks.specs.FirstSupport.{Rising, Earlier, fewer, lexical, here, there}
-use Rattle.disks.proofs.Minimal.{none-of, also}
+use Rattle.disks.specs.Support.{candidates, firstSupport}
+use Rattle.disks.specs.FirstSupport.{Earlier, fewer, lexical, here, there}
 use Rattle.disks.proofs.Base.{positive-not-zero}
 use Rattle.disks.proofs.StrongSmallest.{some-positive}
-use Rattle.disks.proofs.Rising.{ByCoordinates, by-x, by-y, by-coordinates, is-before, insert-in, insert-new, insert-old, insert-rises, sorted-rises, sorted-same}
 use Rattle.disks.proofs.Choose.{Among}
 use Rattle.disks.proofs.First.{Passes, first-passes, Candidate, candidate, a-candidate, candidates-earlier, earlier-asym}
-use Rattle.support.specs.Search.{onBoundaryTest, boundaryOf, midway, opposite, fits, firstFit}
-use Rattle.support.specs.Span.{Spanned}
-use Rattle.support.proofs.Boundary.{boundary-in, in-boundary}
+use Rattle.support_tests.specs.Tests.{onBoundaryTest, midway, opposite, fits}
+use Rattle.support_search.specs.Search.{firstFit}
+use Rattle.support_span.specs.Span.{Spanned}
+use Rattle.support_span.proofs.Spans.{spanned-more}
+use Rattle.support.proofs.Boundary.{boundaryOf, boundary-in, in-boundary}
 use Rattle.support.proofs.Found.{search-finds, search-passes, e-some}
 
 pub record Kept (d : Disk) (P Q : List Point) : Type 0 where
@@ -44,29 +46,21 @@ pub record Kept (d : Disk) (P Q : List Point) : Type 0 where
   pub inside : (x : Point) → In x Q → In x P × T (onBoundaryTest d x)
   pub covered : (x : Point) → In x P → T (onBoundaryTest d x) → In x Q ⊎ Spanned d Q (x .x)
 
--- ---- what two opposite points span
-
-pub across-spans : (d : Disk) (Q : List Point) (a b : Point) → In a Q → In b Q → opposite d a b ≡ true → {lo hi : ℤ} → lo ≡ a .x → hi ≡ b .x → (z : ℤ) → lo <ℤ z → z <ℤ hi → Spanned d Q z
-across-spans d Q a b i j o e f z h k = record { a = a; b = b; a-in = i; b-in = j; across = subst T (sym o) tt; left = subst (λ (y : ℤ). y <ℤ z) e h; right = subst (λ (y : ℤ). z <ℤ y) f k }
-
-pub opposite-swap : (d : Disk) (a b : Point) → opposite d a b ≡ opposite d b a
-unfolding opposite midway
-opposite-swap d a b = ap₂ (λ (x y : ℤ). eqZ (x *ℤ pos (d .e)) (pos 2 *ℤ d .x) && eqZ (y *ℤ pos (d .e)) (pos 2 *ℤ d .y)) (+-comm (a .x) (b .x)) (+-comm (a .y) (b .y))
-
 -- ---- one point more
 
 pub kept-none : (d : Disk) → Kept d [] []
 kept-none d = record { rises = tt; inside = λ x i. absurd (List·Memᴰ·not-nil i); covered = λ x i t. inl i }
-
-pub spanned-more : (d : Disk) (Q : List Point) (p : Point) (z : ℤ) → Spanned d Q z → Spanned d (insert p Q) z
-spanned-more d Q p z s = record { a = s .a; b = s .b; a-in = insert-old p Q (s .a-in); b-in = insert-old p Q (s .b-in); across = s .across; left = s .left; right = s .right }
 
 module _ (d : Disk) (P Q : List Point) (p : Point) (k : Kept d P Q) where
   earlier : {x : Point} → In x P × T (onBoundaryTest d x) → In x (P ++ (p ∷ [])) × T (onBoundaryTest d x)
   earlier h = (Memᴰ·append-left (p ∷ []) (h .0), h .1)
 
   pub kept-put : onBoundaryTest d p ≡ true → Kept d (P ++ (p ∷ [])) (insert p Q)
-  kept-put on = record { rises = insert-rises p Q (k .rises); inside = λ x i. of x (insert-in p Q i); covered = λ x i t. now-covered x t (List·Memᴰ·append-cases P i) }
+  kept-put on = record {
+    rises = insert-rises p Q (k .rises);
+    inside = λ x i. of x (insert-in p Q i);
+    covered = λ x i t. now-covered x t (List·Memᴰ·append-cases P i);
+  }
     where
       of : (x : Point) → (x ≡ p) ⊎ In x Q → In x (P ++ (p ∷ [])) × T (onBoundaryTest d x)
       of x (inl e) = (Memᴰ·append-right P (List·Memᴰ·head e), subst T (sym (ap (onBoundaryTest d) e ∙ on)) tt)
@@ -147,7 +141,8 @@ module _ (d : Disk) (proper : 1 ≤ d .e) where
           <-≤-clash (u .right) (subst (λ (y : ℤ). u .b .x ≤ℤ y) e (wider (u .a .x) (u .b .x) (s .x) (t .x) (sum-x (u .a) (u .b) s t (u .across) o) h))
 
     -- the points of the first set are kept
-    found-kept : (S : List Point) → 1 ≤ length S → T (fits d S) → (x : Point) → In x S → (u : Spanned d Q (x .x)) → ((u .a ∷ u .b ∷ []) ≡ S) ⊎ Earlier S (u .a ∷ u .b ∷ []) → In x Q
+    found-kept : (S : List Point) → 1 ≤ length S → T (fits d S) → (x : Point) → In x S → (u : Spanned d Q (x .x))
+        → ((u .a ∷ u .b ∷ []) ≡ S) ⊎ Earlier S (u .a ∷ u .b ∷ []) → In x Q
     unfolding fits
     found-kept S some t x i u (inl e) = both (List·Memᴰ·cases-cons (subst (In x) (sym e) i))
       where
@@ -169,13 +164,15 @@ module _ (d : Disk) (proper : 1 ≤ d .e) where
       where
         one-of : (x ≡ s) ⊎ In x (r ∷ []) → In x Q
         one-of (inl g) = subst (λ (y : Point). In y Q) (sym (g ∙ f)) (u .a-in)
-        one-of (inr j) = absurd (off-second (x .x) u s r t (≤-of-eq (ap (λ (y : Point). y .x) f)) (ap (λ (y : Point). y .x) (sym (List·Memᴰ·eq-of-singleton j))))
+        one-of (inr j) = absurd
+            (off-second (x .x) u s r t (≤-of-eq (ap (λ (y : Point). y .x) f)) (ap (λ (y : Point). y .x) (sym (List·Memᴰ·eq-of-singleton j))))
     found-kept (s ∷ r ∷ v ∷ S) some t x i u (inr (fewer h)) = absurd (omega arith)
     found-kept (s ∷ r ∷ v ∷ S) some t x i u (inr (lexical e h)) = absurd (omega arith)
 
     -- ---- the first set
 
-    module _ (R : List Point) (rises : Rising R) (to : (x : Point) → In x P → T (onBoundaryTest d x) → In x R) (from : (x : Point) → In x R → In x P × T (onBoundaryTest d x)) (found : Passes (fits d) (candidates R) (firstFit d R)) where
+    module _ (R : List Point) (rises : Rising R) (to : (x : Point) → In x P → T (onBoundaryTest d x) → In x R)
+        (from : (x : Point) → In x R → In x P × T (onBoundaryTest d x)) (found : Passes (fits d) (candidates R) (firstFit d R)) where
       abbrev S : List Point
       S = firstFit d R
 
@@ -191,7 +188,10 @@ module _ (d : Disk) (proper : 1 ≤ d .e) where
 
           c : Candidate R (u .a ∷ u .b ∷ [])
           c = record {
-            rises = (λ y i. subst (λ (v : Point). T (before (u .a) v)) (sym (List·Memᴰ·eq-of-singleton i)) (is-before (by-x (apart (x .x) u))), (λ y i. absurd (List·Memᴰ·not-nil i), tt));
+            rises = (
+              λ y i. subst (λ (v : Point). T (before (u .a) v)) (sym (List·Memᴰ·eq-of-singleton i)) (is-before (by-x (apart (x .x) u))),
+              (λ y i. absurd (List·Memᴰ·not-nil i), tt),
+            );
             members = also (λ y. In y R) (in-R (u .a) (u .a-in)) (also (λ y. In y R) (in-R (u .b) (u .b-in)) (none-of (λ y. In y R)));
             some = omega arith;
             most = omega arith;
@@ -230,5 +230,6 @@ module _ (d : Disk) (proper : 1 ≤ d .e) where
 pub kept-finds : (P : List Point) → 1 ≤ length P → (d : Disk) → d ≡ diskOf P → (Q : List Point) → Kept d P Q → firstFit d Q ≡ firstSupport P
 kept-finds P some d is Q k =
     let B = boundaryOf d P in
-    kept-first d (e-some P some d is) P Q k (sorted B) (sorted-rises B) (λ x i t. sorted-same B .to x (in-boundary d P x i t)) (λ x i. boundary-in d P x (sorted-same B .from x i)) (search-passes P some d is)
+    kept-first d (e-some P some d is) P Q k (sorted B) (sorted-rises B) (λ x i t. sorted-same B .to x (in-boundary d P x i t))
+    (λ x i. boundary-in d P x (sorted-same B .from x i)) (search-passes P some d is)
     ∙ search-finds P some d is

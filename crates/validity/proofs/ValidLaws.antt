@@ -29,7 +29,8 @@ use Rattle.geometry.specs.declared.Limits.{Limits}
 use Rattle.geometry.specs.EmBox.{em, allInBox, largest, WithinLimits}
 use Rattle.geometry.proofs.EmBox.{left-size, right-size, foot-size, top-size}
 use Rattle.validity.specs.Narrow.{Narrow}
-use Rattle.validity.specs.Valid.{scaleInLimit, centreInBox, squareInLimit, isLowest, validDiskIn, oneToThree, rising, validPointsIn, validIn}
+use Rattle.validity.specs.Valid.{scaleInLimit, centreInBox, squareInLimit, isLowest, validDiskIn, oneToThree, validPointsIn, validIn}
+use Rattle.point_lists.specs.Rising.{rising}
 
 pub narrow-em : Narrow em
 narrow-em = record { box-fits = tt; scale-fits = tt; centre-fits = tt; squared-fits = lit≤ tt; square-fits = lit≤ tt }

@@ -5,11 +5,10 @@
 --   squareInLimit l d  == S/E² is within its limit
 --   isLowest d         == no whole number above 1 divides X, Y and E (01: the divisor rule)
 --   oneToThree ps      == there are one, two or three points
---   rising ps          == the points rise strictly, x first and then y
 --   validIn l d ps     == a record with the limits l can hold the disk d and the points ps
 --   valid d ps         == a record of document 01 can: by the limits of the em
-use mathlib.Core.Bool.{Bool, true, _&&_}
-use mathlib.Core.List.{List, [], _∷_}
+use mathlib.Core.Bool.{Bool, _&&_}
+use mathlib.Core.List.{List}
 use Prim.Native.Nat.{_*_}
 use lib.Dec.{leb, eqb}
 use lib.IntN.{pos, _*ℤ_}
@@ -20,7 +19,7 @@ use Rattle.geometry.specs.declared.Point.{Point}
 use Rattle.geometry.specs.declared.Disk.{Disk}
 use Rattle.geometry.specs.declared.Limits.{Limits}
 use Rattle.geometry.specs.EmBox.{em, allInBox}
-use Rattle.geometry.specs.Order.{before}
+use Rattle.point_lists.specs.Rising.{rising}
 
 -- ---- the disk
 
@@ -45,11 +44,6 @@ validDiskIn l d = scaleInLimit l d && (isLowest d && (centreInBox l d && squareI
 
 abbrev pub oneToThree : List Point → Bool
 oneToThree ps = leb 1 (length ps) && leb (length ps) 3
-
-unfoldable pub rising : List Point → Bool
-rising [] = true
-rising (p ∷ []) = true
-rising (p ∷ q ∷ ps) = before p q && rising (q ∷ ps)
 
 unfoldable pub validPointsIn : Limits → List Point → Bool
 validPointsIn l ps = oneToThree ps && (rising ps && allInBox l ps)

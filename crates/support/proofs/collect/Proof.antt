@@ -17,17 +17,18 @@ use Rattle.integers.proofs.Tests.{and-left, and-right}
 use Rattle.integers.proofs.Order.{<-≤-clash, ≤-of-<}
 use Rattle.geometry.specs.declared.Point.{Point}
 use Rattle.geometry.specs.Points.{points, pointAt, firstPoints}
-use Rattle.geometry.specs.EmBox.{inEmBox, WithinLimits}
+use Rattle.geometry.specs.EmBox.{em, inEmBox, WithinLimits}
 use Rattle.geometry.proofs.EmBox.{box-members}
 use Rattle.geometry.proofs.PointLists.{length-firstPoints, firstPoints-next, firstPoints-whole}
 use Rattle.geometry.proofs.PointRows.{points-some, pointAt-in}
-use Rattle.disks.specs.Smallest.{In}
-use Rattle.disks.specs.Support.{insert}
-use Rattle.disks.proofs.Rising.{insert-new, insert-length}
-use Rattle.support.specs.Span.{Spanned, Spans}
-use Rattle.support.proofs.Numbers.{limits-small}
+use Rattle.point_lists.specs.Sets.{In}
+use Rattle.point_lists.specs.Rising.{insert}
+use Rattle.point_lists.proofs.Rising.{insert-new, insert-length}
+use Rattle.support_tests.proofs.Numbers.{limits-small}
+use Rattle.support_span.specs.Span.{Spanned, Spans}
+use Rattle.support_span.proofs.Spans.{spanned-more}
 use Rattle.support.proofs.Found.{within-limits}
-use Rattle.support.proofs.Kept.{Kept, kept-none, kept-put, kept-spanned, kept-off, spanned-more, kept-finds}
+use Rattle.support.proofs.Kept.{Kept, kept-none, kept-put, kept-spanned, kept-off, kept-finds}
 use Rattle.support.proofs.collect.Statement.{statement}
 use Rattle.support.proofs.collect.Tie as tie
 
@@ -38,8 +39,9 @@ Inv-loop list disk out₀ m₀ span₀ n i₀ out m span i =
 abbrev μ-loop : tie.MeasureT-loop
 μ-loop list disk out₀ m₀ span₀ n i₀ out m span i = length list / 2 - i
 
-in-limits : (s : tie.Start Inv-loop μ-loop) → WithinLimits (s .args .disk)
-in-limits s = within-limits (points (s .args .list .now)) (points-some (s .args .list .now) (s .pre .0 .some)) (s .args .disk) (s .pre .0 .smallest) (s .pre .0 .boxed)
+in-limits : (s : tie.Start Inv-loop μ-loop) → WithinLimits em (s .args .disk)
+in-limits s = within-limits (points (s .args .list .now)) (points-some (s .args .list .now) (s .pre .0 .some)) (s .args .disk) (s .pre .0 .smallest)
+    (s .pre .0 .boxed)
 
 -- the point that was read, behind those that were looked at
 module _ (c : tie.After-point-at Inv-loop μ-loop) where
@@ -59,7 +61,8 @@ module _ (c : tie.After-point-at Inv-loop μ-loop) where
   Q = firstPoints (at .loop .m) (at .loop .out)
 
   read : firstPoints (at .loop .i + 1) (s .args .list .now) ≡ P ++ (p ∷ [])
-  read = firstPoints-next (at .loop .i) (s .args .list .now) (omega (arith, c .before .loop-test .taken)) ∙ ap (λ (q : Point). P ++ (q ∷ [])) (sym (c .point-at .ensures))
+  read = firstPoints-next (at .loop .i) (s .args .list .now) (omega (arith, c .before .loop-test .taken))
+      ∙ ap (λ (q : Point). P ++ (q ∷ [])) (sym (c .point-at .ensures))
 
   now-kept : (R : List Point) → Kept (s .args .disk) (P ++ (p ∷ [])) R → Kept (s .args .disk) (firstPoints (at .loop .i + 1) (s .args .list .now)) R
   now-kept R k = subst (λ (L : List Point). Kept (s .args .disk) L R) (sym read) k
@@ -81,8 +84,11 @@ on-boundary-requires : tie.Need-on-boundary-requires Inv-loop μ-loop
 on-boundary-requires c κs =
     let r = c .before .before .before in
     let l = s r .args .list .now in
-    let i = at r .loop .i in
-    (in-limits (s r), subst (λ (p : Point). T (inEmBox p)) (sym (r .point-at .ensures)) (box-members (points l) (s r .pre .0 .boxed) (pointAt l i) (pointAt-in i l (omega (arith, r .before .loop-test .taken)))))
+    let i = at r .loop .i in (
+      in-limits (s r),
+      subst (λ (p : Point). T (inEmBox p)) (sym (r .point-at .ensures))
+          (box-members (points l) (s r .pre .0 .boxed) (pointAt l i) (pointAt-in i l (omega (arith, r .before .loop-test .taken)))),
+    )
 
 insert-point-requires : tie.Need-insert-point-requires Inv-loop μ-loop
 insert-point-requires c κs =
@@ -102,23 +108,29 @@ module _ (c : tie.After-insert-point Inv-loop μ-loop) where
 
   one-more : c .insert-point .result ≤ at r .loop .m + 1
   one-more =
-      let size : length (Q r) ≡ at r .loop .m = length-firstPoints (at r .loop .m) (at r .loop .out) (omega (arith, at r .loop .inv .0, at r .loop .inv .1, at r .loop .inv .2, s r .pre .1)) in
+      let size : length (Q r) ≡ at r .loop .m = length-firstPoints (at r .loop .m) (at r .loop .out)
+      (omega (arith, at r .loop .inv .0, at r .loop .inv .1, at r .loop .inv .2, s r .pre .1)) in
       omega (arith, c .insert-point .ensures .0, insert-length (p r) (Q r), size)
 
   put-in : Kept (s r .args .disk) (firstPoints (at r .loop .i + 1) (s r .args .list .now)) R
   put-in =
       let test = c .before .before in
-      now-kept r R (subst (Kept (s r .args .disk) (P r ++ (p r ∷ []))) (sym with-it) (kept-put (s r .args .disk) (P r) (Q r) (p r) (at r .loop .inv .3) (sym (test .before .on-boundary .ensures) ∙ test .if2 .taken)))
+      now-kept r R (subst (Kept (s r .args .disk) (P r ++ (p r ∷ []))) (sym with-it)
+      (kept-put (s r .args .disk) (P r) (Q r) (p r) (at r .loop .inv .3) (sym (test .before .on-boundary .ensures) ∙ test .if2 .taken)))
 
   -- what was spanned stays so
   still-spanned : Spans (s r .args .disk) R (at r .loop .span)
-  still-spanned z h k = subst (λ (L : List Point). Spanned (s r .args .disk) L z) (sym with-it) (spanned-more (s r .args .disk) (Q r) (p r) z (at r .loop .inv .4 z h k))
+  still-spanned z h k = subst (λ (L : List Point). Spanned (s r .args .disk) L z) (sym with-it)
+      (spanned-more (s r .args .disk) (Q r) (p r) z (at r .loop .inv .4 z h k))
 
 span-with-requires : tie.Need-span-with-requires Inv-loop μ-loop
 span-with-requires c κs =
     let u = c .before .before .before in
     let e = r u in (
-      (omega (arith, one-more u, u .insert-point .kept .0, at e .loop .inv .1, at e .loop .inv .2, s e .pre .1, e .before .loop-test .taken), limits-small (s e .args .disk) (in-limits (s e))),
+      (
+        omega (arith, one-more u, u .insert-point .kept .0, at e .loop .inv .1, at e .loop .inv .2, s e .pre .1, e .before .loop-test .taken),
+        limits-small (s e .args .disk) (in-limits (s e)),
+      ),
       (subst (In (p e)) (sym (with-it u)) (insert-new (p e) (Q e)), still-spanned u),
     )
 
@@ -128,8 +140,13 @@ loop-less c = omega (arith, r (c .before .before .before .before) .before .loop-
 loop-again : tie.Need-loop-again Inv-loop μ-loop
 loop-again c =
     let u = c .before .before .before .before in
-    let e = r u in
-    (omega (arith, e .before .loop-test .taken), omega (arith, one-more u, at e .loop .inv .1), u .insert-point .kept .0 ∙ at e .loop .inv .2, put-in u, c .span-with .ensures)
+    let e = r u in (
+      omega (arith, e .before .loop-test .taken),
+      omega (arith, one-more u, at e .loop .inv .1),
+      u .insert-point .kept .0 ∙ at e .loop .inv .2,
+      put-in u,
+      c .span-with .ensures,
+    )
 
 loop-less-2 : tie.Need-loop-less-2 Inv-loop μ-loop
 loop-less-2 c = omega (arith, r (c .before .before) .before .loop-test .taken)
@@ -137,8 +154,13 @@ loop-less-2 c = omega (arith, r (c .before .before) .before .loop-test .taken)
 loop-again-2 : tie.Need-loop-again-2 Inv-loop μ-loop
 loop-again-2 c =
     let u = c .before .before in
-    let e = r u in
-    (omega (arith, e .before .loop-test .taken), omega (arith, one-more u, at e .loop .inv .1), u .insert-point .kept .0 ∙ at e .loop .inv .2, put-in u, still-spanned u)
+    let e = r u in (
+      omega (arith, e .before .loop-test .taken),
+      omega (arith, one-more u, at e .loop .inv .1),
+      u .insert-point .kept .0 ∙ at e .loop .inv .2,
+      put-in u,
+      still-spanned u,
+    )
 
 -- the point is spanned, as the test said
 spanned : (c : tie.After-is-spanned Inv-loop μ-loop) → c .is-spanned .result ≡ true → let e = c .before .before in Spanned (s e .args .disk) (Q e) (p e .x)
@@ -173,9 +195,11 @@ returns : tie.Need-returns Inv-loop μ-loop
 returns c =
     let l = c .before .loop in
     let st = c .before .before in
-    let whole : firstPoints (l .i) (st .args .list .now) ≡ points (st .args .list .now) = firstPoints-whole (l .i) (st .args .list .now) (omega (arith, l .inv .0)) (omega (arith, c .loop-test .left)) in (
+    let whole : firstPoints (l .i) (st .args .list .now) ≡ points (st .args .list .now) = firstPoints-whole (l .i) (st .args .list .now)
+    (omega (arith, l .inv .0)) (omega (arith, c .loop-test .left)) in (
       omega (arith, l .inv .0, l .inv .1, l .inv .2, st .pre .1),
-      kept-finds (points (st .args .list .now)) (points-some (st .args .list .now) (st .pre .0 .some)) (st .args .disk) (st .pre .0 .smallest) (firstPoints (l .m) (l .out))
+      kept-finds (points (st .args .list .now)) (points-some (st .args .list .now) (st .pre .0 .some)) (st .args .disk) (st .pre .0 .smallest)
+          (firstPoints (l .m) (l .out))
           (subst (λ (P : List Point). Kept (st .args .disk) P (firstPoints (l .m) (l .out))) whole (l .inv .3)),
     )
 

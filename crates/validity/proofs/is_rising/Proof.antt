@@ -4,7 +4,7 @@ use borrow.Author.Needs.{needs}
 use Rattle.integers.proofs.Tests.{stop, pass, last-test}
 use Rattle.geometry.specs.declared.SupportSet.{SupportSet}
 use Rattle.geometry.specs.Plane.{members}
-use Rattle.validity.specs.Valid.{rising}
+use Rattle.point_lists.specs.Rising.{rising}
 use Rattle.validity.proofs.is_rising.Statement.{statement}
 use Rattle.validity.proofs.is_rising.Tie as tie
 

@@ -1,0 +1,4 @@
+pub mod Sets
+pub mod Order
+pub mod Rising
+pub mod Put

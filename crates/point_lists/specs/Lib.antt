@@ -1,0 +1,4 @@
+-- Lists of points: as sets, in rising order, and written into a list of numbers.
+pub mod Sets
+pub mod Rising
+pub mod Put

@@ -1,0 +1,2 @@
+-- The search through the sets of points of a list.
+pub mod Search

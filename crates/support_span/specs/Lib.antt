@@ -1,0 +1,2 @@
+-- Points that a search can leave out.
+pub mod Span
