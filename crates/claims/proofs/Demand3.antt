@@ -13,7 +13,7 @@ use native.Mathlib.Omega.{arith}
 use lib.IntN.{ℤ}
 use lib.ListN.{length, take}
 use Rattle.answers.specs.Outcome.{given}
-use Rattle.integers.specs.Between.{true-test}
+use Rattle.integers.proofs.Tests.{true-test}
 use Rattle.geometry.specs.declared.Point.{Point}
 use Rattle.geometry.specs.declared.Disk.{Disk}
 use Rattle.geometry.specs.EmBox.{allInEmBox}
@@ -36,11 +36,12 @@ use Rattle.description.proofs.Accepted.{load-same, accepted-room, accepted-coun
 use Rattle.engine.specs.Engine.{Enclosure, enclosure, encloseOf, listAfter}
 use Rattle.engine.proofs.Checks.{accepted, list-accepted}
 use Rattle.engine.proofs.Accepted.{Accepted, accepted-list, has-point}
-use Rattle.record.specs.Valid.{valid}
-use Rattle.record.specs.Bytes.{recordLength, recordBytes}
-use Rattle.record.specs.Radius.{wholeRadius, radiusOf}
-use Rattle.record.specs.Writing.{writeOf, bufferAfter}
-use Rattle.record.proofs.RoundTrip.{record-injective}
+use Rattle.validity.specs.Valid.{valid}
+use Rattle.record_writer.specs.Layout.{recordLength}
+use Rattle.record_writer.specs.Bytes.{recordBytes}
+use Rattle.radius.specs.Radius.{wholeRadius, radiusOf}
+use Rattle.record_writer.specs.Writing.{writeOf, bufferAfter}
+use Rattle.record_reader.proofs.RoundTrip.{record-injective}
 use Rattle.preview.specs.Preview.{floats, previewOf}
 use Rattle.claims.specs.Demand3.{ProcedureIsWelzls, AcceptedDescription, Answers, worked, WorkedOut, Demand3}
 use Rattle.claims.proofs.ValidAnswer.{valid-answer}

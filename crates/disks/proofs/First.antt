@@ -16,8 +16,9 @@ use Prim.Native.Nat.{ℕ, suc, _≤_}
 use native.Mathlib.Omega.{arith}
 use lib.Dec.{T, eqb, eqb→eq, eqb-refl}
 use lib.ListN.{length}
-use Rattle.integers.specs.Bounds.{and-left, and-right, and-both, eqZ→eq, eq→eqZ}
-use Rattle.integers.specs.Between.{eqZ}
+use Rattle.integers.proofs.Tests.{and-left, and-right, and-both}
+use Rattle.integers.proofs.Order.{eqZ-eq, eq-eqZ}
+use Rattle.integers.specs.Order.{eqZ}
 use Rattle.geometry.specs.declared.Point.{Point}
 use Rattle.geometry.specs.declared.Disk.{Disk}
 use Rattle.point_lists.specs.Sets.{In, Same}
@@ -59,8 +60,8 @@ earlier-asym (lexical e h) (lexical f k) = lexical-asym h k
 same-disk-eq : (c d : Disk) → T (sameDisk c d) → c ≡ d
 unfolding sameDisk
 same-disk-eq c d t = λ i. record {
-  x = eqZ→eq (c .x) (d .x) (and-left x (y && (e && s)) t) i;
-  y = eqZ→eq (c .y) (d .y)
+  x = eqZ-eq (c .x) (d .x) (and-left x (y && (e && s)) t) i;
+  y = eqZ-eq (c .y) (d .y)
       (and-left y (e && s) rest) i;
   e = eqb→eq (c .e) (d .e) (and-left e s last) i;
   s = eqb→eq (c .s) (d .s) (and-right e s last) i;
@@ -86,8 +87,8 @@ same-disk-eq c d t = λ i. record {
 
 same-disk-refl : (d : Disk) → T (sameDisk d d)
 unfolding sameDisk
-same-disk-refl d = and-both (eqZ (d .x) (d .x)) (eqZ (d .y) (d .y) && (eqb (d .e) (d .e) && eqb (d .s) (d .s))) (eq→eqZ (d .x) (d .x) refl)
-    (and-both (eqZ (d .y) (d .y)) (eqb (d .e) (d .e) && eqb (d .s) (d .s)) (eq→eqZ (d .y) (d .y) refl)
+same-disk-refl d = and-both (eqZ (d .x) (d .x)) (eqZ (d .y) (d .y) && (eqb (d .e) (d .e) && eqb (d .s) (d .s))) (eq-eqZ (d .x) (d .x) refl)
+    (and-both (eqZ (d .y) (d .y)) (eqb (d .e) (d .e) && eqb (d .s) (d .s)) (eq-eqZ (d .y) (d .y) refl)
     (and-both (eqb (d .e) (d .e)) (eqb (d .s) (d .s)) (eqb-refl (d .e)) (eqb-refl (d .s))))
 
 no-points : 1 ≤ 0 → ⊥

@@ -12,8 +12,8 @@ use mathlib.Core.Path.{_≡_, refl, sym, _∙_, ap, subst}
 use mathlib.Core.List.{List, [], _∷_, List·Memᴰ·head, List·Memᴰ·tail}
 use lib.IntN.{ℤ, pos, negsuc, negℤ, _+ℤ_, _*ℤ_}
 use lib.Signed.{_≤ℤ_, _<ℤ_}
-use Rattle.integers.specs.Ring.{ring, poly}
-use Rattle.integers.specs.Order.{≤-of-eq, ≤-of-<, nonneg, positive, nonneg-by, le, lt, eq, sq, nn, _⊞_, _⊠_}
+use Rattle.integers.proofs.Ring.{ring, poly}
+use Rattle.integers.proofs.Order.{≤-of-eq, ≤-of-<, nonneg, positive, nonneg-by, le, lt, eq, sq, nn, _⊞_, _⊠_}
 use Rattle.geometry.specs.declared.Point.{Point}
 use Rattle.point_lists.specs.Sets.{In, Same}
 use Rattle.point_lists.proofs.Sets.{none-of, also, same-sym}

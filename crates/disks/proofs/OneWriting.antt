@@ -8,14 +8,14 @@ use Prim.Native.Nat.{_*_, _≤_}
 use native.Mathlib.Nat.{mul-le-mul}
 use lib.IntN.{ℤ, pos, natAbs, _+ℤ_, _*ℤ_}
 use lib.Signed.{_≤ℤ_, _<ℤ_}
-use Rattle.integers.specs.Reduced.{reduced-unique}
-use Rattle.integers.specs.Ring.{poly, linear, eqn, _&_}
-use Rattle.integers.specs.Order.{≤-antisym, nonneg, le, sq, _⊠_, ≡-cancel}
+use Rattle.integers.proofs.Ring.{poly, linear, eqn, _&_}
+use Rattle.integers.proofs.Order.{≤-antisym, nonneg, le, sq, _⊠_, ≡-cancel}
 use Rattle.geometry.specs.declared.Point.{Point}
 use Rattle.geometry.specs.declared.Disk.{Disk}
 use Rattle.geometry.specs.Plane.{distance, holds}
 use Rattle.point_lists.specs.Sets.{Same}
 use Rattle.point_lists.proofs.Sets.{same-sym}
+use Rattle.divisors.proofs.Reduced.{reduced-unique}
 use Rattle.disks.specs.Smallest.{RationalDisk, Fits, SmallestWith}
 use Rattle.disks.proofs.Base.{positive-not-zero}
 use Rattle.disks.proofs.StrongSmallest.{some-positive}

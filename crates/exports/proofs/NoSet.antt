@@ -12,11 +12,11 @@ use lib.ListN.{length}
 use Rattle.answers.specs.Outcome.{refused, refuseIf}
 use Rattle.geometry.specs.declared.Point.{Point}
 use Rattle.geometry.specs.declared.Disk.{Disk}
-use Rattle.record.specs.Valid.{valid, validDisk, validPoints}
-use Rattle.record.specs.Radius.{radiusOf}
+use Rattle.validity.specs.Valid.{valid, validDisk, validPoints}
+use Rattle.radius.specs.Radius.{radiusOf}
 use Rattle.preview.specs.Preview.{previewOf}
-use Rattle.record.specs.Bytes.{recordLength}
-use Rattle.record.specs.Writing.{writeOf}
+use Rattle.record_writer.specs.Layout.{recordLength}
+use Rattle.record_writer.specs.Writing.{writeOf}
 use Rattle.exports.specs.Support.{counted}
 
 pub other-size : (n : ℕ) (a b c : Point) → (n ≡ 1 → ⊥) → (n ≡ 2 → ⊥) → (n ≡ 3 → ⊥) → [] ≡ counted n a b c

@@ -13,8 +13,8 @@ use lib.ListN.{length, take}
 use Rattle.answers.specs.Outcome.{Outcome, given, refused, andThen}
 use Rattle.description.specs.Description.{loadOf, listAfter}
 use Rattle.engine.specs.Engine.{Enclosure, encloseOf}
-use Rattle.record.specs.Bytes.{recordLength}
-use Rattle.record.specs.Writing.{writeOf, bufferAfter}
+use Rattle.record_writer.specs.Layout.{recordLength}
+use Rattle.record_writer.specs.Writing.{writeOf, bufferAfter}
 use Rattle.exports.specs.Answers.{codeOf}
 use Rattle.exports.specs.WholeWay.{room, enclosureOf, recordOf, writtenInto, bufferAfterAll}
 

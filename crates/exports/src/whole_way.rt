@@ -21,7 +21,7 @@ pub extern "C" fn volkhidar_record_of(text: &[u8], buf: &mut [u8]) -> u64
     ensures { λ r. ⌜ r ≡ codeOf (recordOf (now (text .entry)) (now (buf .entry))) ⌝ }
     ensures { λ _. ⌜ now (buf .exit) ≡ bufferAfterAll (now (text .entry)) (now (buf .entry)) ⌝ }
 {
-    if buf.len() < record::RECORD_LENGTH {
+    if buf.len() < record_writer::RECORD_LENGTH {
         return 8;
     }
     let enclosed = enclose(text);

@@ -3,7 +3,7 @@
 --   before p q  == p comes before q in rising order, x first and then y
 use mathlib.Core.Bool.{Bool, _&&_, _||_}
 use lib.Signed.{ltZ}
-use Rattle.integers.specs.Between.{eqZ}
+use Rattle.integers.specs.Order.{eqZ}
 use Rattle.geometry.specs.declared.Point.{Point}
 
 unfoldable pub before : Point → Point → Bool

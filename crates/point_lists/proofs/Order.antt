@@ -9,10 +9,10 @@ use mathlib.Core.Logic.{_⊎_, inl, inr}
 use mathlib.Core.Bool.{Bool, true, false, _&&_, _||_}
 use lib.Dec.{T}
 use lib.Signed.{_<ℤ_, ltZ}
-use Rattle.integers.specs.Between.{eqZ, true-test}
-use Rattle.integers.specs.Bounds.{and-left, and-right, and-both, eqZ→eq, eq→eqZ}
-use Rattle.integers.specs.Order as O
-use Rattle.integers.specs.Order.{≤-of-eq, <-trans, <-≤-clash, <-≤-trans, ≤-<-trans}
+use Rattle.integers.specs.Order.{eqZ}
+use Rattle.integers.proofs.Tests.{true-test, and-left, and-right, and-both}
+use Rattle.integers.proofs.Order.{eqZ-eq, eq-eqZ, ≤-of-eq, <-trans, <-≤-clash, <-≤-trans, ≤-<-trans}
+use Rattle.integers.proofs.Order as O
 use Rattle.geometry.specs.declared.Point.{Point}
 use Rattle.geometry.specs.Order.{before}
 use Rattle.point_lists.proofs.Sets.{point-path}
@@ -38,14 +38,14 @@ by-coordinates p q t = go (either-test (ltZ (p .x) (q .x)) (eqZ (p .x) (q .x) &&
   where
     go : T (ltZ (p .x) (q .x)) ⊎ T (eqZ (p .x) (q .x) && ltZ (p .y) (q .y)) → ByCoordinates p q
     go (inl h) = by-x (record { lt = h })
-    go (inr h) = by-y (eqZ→eq (p .x) (q .x) (and-left (eqZ (p .x) (q .x)) (ltZ (p .y) (q .y)) h))
+    go (inr h) = by-y (eqZ-eq (p .x) (q .x) (and-left (eqZ (p .x) (q .x)) (ltZ (p .y) (q .y)) h))
         (record { lt = and-right (eqZ (p .x) (q .x)) (ltZ (p .y) (q .y)) h })
 
 pub is-before : {p q : Point} → ByCoordinates p q → T (before p q)
 unfolding before
 is-before {p} {q} (by-x h) = first-test (ltZ (p .x) (q .x)) (eqZ (p .x) (q .x) && ltZ (p .y) (q .y)) (h .lt)
 is-before {p} {q} (by-y e h) = second-test (ltZ (p .x) (q .x)) (eqZ (p .x) (q .x) && ltZ (p .y) (q .y))
-    (and-both (eqZ (p .x) (q .x)) (ltZ (p .y) (q .y)) (eq→eqZ (p .x) (q .x) e) (h .lt))
+    (and-both (eqZ (p .x) (q .x)) (ltZ (p .y) (q .y)) (eq-eqZ (p .x) (q .x) e) (h .lt))
 
 pub before-trans : (p q r : Point) → T (before p q) → T (before q r) → T (before p r)
 before-trans p q r s t = is-before (go (by-coordinates p q s) (by-coordinates q r t))

@@ -13,7 +13,7 @@ use Prim.Native.Nat.{suc, _≤_}
 use native.Mathlib.Omega.{arith}
 use lib.ListN.{length}
 use lib.Dec.{T}
-use Rattle.integers.specs.Between.{first, rest, both, test-true, true-test}
+use Rattle.integers.proofs.Tests.{first, rest, both, test-true, true-test}
 use Rattle.geometry.specs.declared.Point.{Point}
 use Rattle.geometry.specs.Order.{before}
 use Rattle.point_lists.specs.Sets.{In, Same}

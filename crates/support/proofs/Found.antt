@@ -15,18 +15,17 @@ use lib.Dec.{T}
 use lib.IntN.{ℤ, pos, negsuc, _*ℤ_}
 use lib.ListN.{length}
 use lib.Signed.{_<ℤ_}
-use Rattle.integers.specs.Ring.{poly, linear, eqn, _&_}
-use Rattle.integers.specs.Order.{≡-cancel}
+use Rattle.integers.proofs.Ring.{poly, linear, eqn, _&_}
+use Rattle.integers.proofs.Order.{≡-cancel}
 use Rattle.geometry.specs.declared.Point.{Point}
 use Rattle.geometry.specs.declared.Disk.{Disk}
-use Rattle.geometry.specs.EmBox.{em, allInEmBox}
+use Rattle.geometry.specs.EmBox.{em, allInEmBox, WithinLimits}
 use Rattle.geometry.proofs.EmBox.{box-members}
 use Rattle.point_lists.specs.Sets.{In}
 use Rattle.point_lists.specs.Rising.{sorted, Rising}
 use Rattle.point_lists.proofs.Sets.{none-of, also, same-refl}
 use Rattle.point_lists.proofs.Rising.{sorted-rises, sorted-same, sorted-length}
 use Rattle.disks.specs.Smallest.{Smallest}
-use Rattle.disks.specs.Limits.{WithinLimits}
 use Rattle.disks.specs.Procedure.{diskOf}
 use Rattle.disks.specs.Support.{candidates, firstOf, firstSupport}
 use Rattle.disks.specs.FirstSupport.{IsSupport, IsFirstSupport, Earlier, fewer, lexical}

@@ -14,10 +14,10 @@ use lib.Dec.{T, eqb→eq}
 use lib.IntN.{ℤ, pos, negsuc, _+ℤ_, _-ℤ_, _*ℤ_}
 use lib.ListN.{length}
 use lib.Signed.{_<ℤ_, _≤ℤ_}
-use Rattle.integers.specs.Bounds.{and-left, eqZ→eq}
-use Rattle.integers.specs.Laws.{eq-of-sub}
-use Rattle.integers.specs.Ring.{poly, linear, eqn, _&_}
-use Rattle.integers.specs.Order.{≤-of-eq, ≤-of-<, <-≤-clash, <-trans, ≡-cancel, sum-squares-zero, nonneg, le, eq, _⊞_}
+use Rattle.integers.proofs.Tests.{and-left}
+use Rattle.integers.proofs.Order.{eqZ-eq, ≤-of-eq, ≤-of-<, <-≤-clash, <-trans, ≡-cancel, sum-squares-zero, nonneg, le, eq, _⊞_}
+use Rattle.integers.proofs.Laws.{eq-of-sub}
+use Rattle.integers.proofs.Ring.{poly, linear, eqn, _&_}
 use Rattle.geometry.specs.declared.Point.{Point}
 use Rattle.geometry.specs.declared.Disk.{Disk}
 use Rattle.geometry.specs.Plane.{distance}
@@ -109,7 +109,7 @@ module _ (d : Disk) (proper : 1 ≤ d .e) where
 
   across-x : (a b : Point) → T (opposite d a b) → (a .x +ℤ b .x) *ℤ E ≡ pos 2 *ℤ d .x
   unfolding opposite midway
-  across-x a b t = eqZ→eq ((a .x +ℤ b .x) *ℤ E) (pos 2 *ℤ d .x) (and-left (midway (a .x) (b .x) (d .e) (d .x)) (midway (a .y) (b .y) (d .e) (d .y)) t)
+  across-x a b t = eqZ-eq ((a .x +ℤ b .x) *ℤ E) (pos 2 *ℤ d .x) (and-left (midway (a .x) (b .x) (d .e) (d .x)) (midway (a .y) (b .y) (d .e) (d .y)) t)
 
   sum-x : (a b s t : Point) → T (opposite d a b) → T (opposite d s t) → a .x +ℤ b .x ≡ s .x +ℤ t .x
   sum-x a b s t h k = same-x (a .x +ℤ b .x) (s .x +ℤ t .x) E (pos 2 *ℤ d .x) (some-positive proper) (across-x a b h) (across-x s t k)
@@ -117,7 +117,7 @@ module _ (d : Disk) (proper : 1 ≤ d .e) where
   -- a disk of radius 0 has one point on its boundary, at its centre
   centre-x : (a : Point) → T (onBoundaryTest d a) → d .s ≡ 0 → a .x *ℤ E ≡ d .x
   unfolding onBoundaryTest
-  centre-x a t z = eq-of-sub (a .x *ℤ E) (d .x) (sum-squares-zero (a .x *ℤ E -ℤ d .x) (a .y *ℤ E -ℤ d .y) (eqZ→eq (distance d a) (pos (d .s)) t ∙ ap pos z) .0)
+  centre-x a t z = eq-of-sub (a .x *ℤ E) (d .x) (sum-squares-zero (a .x *ℤ E -ℤ d .x) (a .y *ℤ E -ℤ d .y) (eqZ-eq (distance d a) (pos (d .s)) t ∙ ap pos z) .0)
 
   -- ---- a set that comes before a pair of opposite points has no point strictly between them
 

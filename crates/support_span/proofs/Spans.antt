@@ -8,8 +8,9 @@ use mathlib.Core.Bool.{true, _&&_}
 use mathlib.Core.List.{List}
 use lib.IntN.{ℤ, pos, _*ℤ_}
 use lib.Signed.{_<ℤ_}
-use Rattle.integers.specs.Between.{eqZ, true-test}
-use Rattle.integers.specs.Laws.{+-comm}
+use Rattle.integers.specs.Order.{eqZ}
+use Rattle.integers.proofs.Tests.{true-test}
+use Rattle.integers.proofs.Laws.{+-comm}
 use Rattle.geometry.specs.declared.Point.{Point}
 use Rattle.geometry.specs.declared.Disk.{Disk}
 use Rattle.point_lists.specs.Sets.{In}

@@ -20,16 +20,16 @@ use lib.Signed.{natAbs-le}
 use mir.Syntax.{w16, w64}
 use mir.Val.{SFits, toZ, ofZ}
 use mir.Facts.{toZ-ofZ}
-use Rattle.integers.specs.Between.{test-true}
-use Rattle.integers.specs.Bounds.{Value, v-add, v-neg, v-back, v-eq, v-fits, v-abs, reads-as, at-most, within-range}
-use Rattle.integers.specs.Order.{_≼_, pos-le, nn-nat, nonneg, le, _⊞_, _⊠_}
-use Rattle.integers.specs.Ring.{poly}
+use Rattle.integers.specs.Order.{_≼_}
+use Rattle.integers.proofs.Tests.{test-true}
+use Rattle.integers.proofs.Bounds.{Value, v-add, v-neg, v-back, v-eq, v-fits, v-abs, reads-as, at-most, within-range}
+use Rattle.integers.proofs.Order.{pos-le, nn-nat, nonneg, le, _⊞_, _⊠_}
+use Rattle.integers.proofs.Ring.{poly}
 use Rattle.geometry.specs.declared.Point.{Point}
 use Rattle.geometry.specs.declared.Disk.{Disk}
-use Rattle.geometry.specs.EmBox.{em, inEmBox, largest}
+use Rattle.geometry.specs.EmBox.{em, inEmBox, largest, WithinLimits}
 use Rattle.geometry.proofs.Coordinates.{widened}
 use Rattle.geometry.proofs.EmBox.{Inside, inside}
-use Rattle.disks.specs.Limits.{WithinLimits}
 use Rattle.disks.proofs.Answer.{side}
 use Rattle.support_tests.specs.Tests.{midway, Small, SmallDisk}
 

@@ -11,10 +11,10 @@ use Prim.Native.Nat.{ℕ}
 use lib.Dec.{T, eqb, eqb→eq}
 use lib.IntN.{ℤ, pos, negsuc, _+ℤ_, _-ℤ_, _*ℤ_}
 use lib.Signed.{_<ℤ_}
-use Rattle.integers.specs.Bounds.{and-left, and-right, and-both, eqZ→eq, eq→eqZ}
-use Rattle.integers.specs.Laws.{eq-of-sub}
-use Rattle.integers.specs.Ring.{ring, poly, linear, eqn, _&_}
-use Rattle.integers.specs.Order.{≡-cancel, sum-squares-zero}
+use Rattle.integers.proofs.Tests.{and-left, and-right, and-both}
+use Rattle.integers.proofs.Order.{eqZ-eq, eq-eqZ, ≡-cancel, sum-squares-zero}
+use Rattle.integers.proofs.Laws.{eq-of-sub}
+use Rattle.integers.proofs.Ring.{ring, poly, linear, eqn, _&_}
 use Rattle.geometry.specs.declared.Point.{Point}
 use Rattle.geometry.specs.declared.Disk.{Disk}
 use Rattle.geometry.specs.Plane.{distance}
@@ -59,11 +59,11 @@ module _ {F : Lifted} {d : Disk} (proper : pos 0 <ℤ F .e) (w : Written F d) wh
 
   pub on-value : (a : Point) → T (onBoundaryTest d a) → value F a ≡ pos 0
   unfolding onBoundaryTest
-  on-value a t = value-none (F .e) (value F a) (g *ℤ g) (distance d a) (pos (d .s)) (written-value w a) proper (eqZ→eq (distance d a) (pos (d .s)) t)
+  on-value a t = value-none (F .e) (value F a) (g *ℤ g) (distance d a) (pos (d .s)) (written-value w a) proper (eqZ-eq (distance d a) (pos (d .s)) t)
 
   pub value-on : (a : Point) → value F a ≡ pos 0 → T (onBoundaryTest d a)
   unfolding onBoundaryTest
-  value-on a h = eq→eqZ (distance d a) (pos (d .s)) (written-on proper w a h)
+  value-on a h = eq-eqZ (distance d a) (pos (d .s)) (written-on proper w a h)
 
   -- ---- one point
 
@@ -102,18 +102,18 @@ module _ {F : Lifted} {d : Disk} (proper : pos 0 <ℤ F .e) (w : Written F d) wh
     unfolding fits opposite midway
     two-strong t = two-test F proper a b ha hb .1 (
       scaled (a .x +ℤ b .x) (pos (d .e)) (pos 2 *ℤ d .x) g (F .e) (pos 2 *ℤ F .cx) (w .e-is) (twice-scaled g (d .x) (F .cx) (w .x-is))
-          (eqZ→eq ((a .x +ℤ b .x) *ℤ pos (d .e)) (pos 2 *ℤ d .x) (and-left along-x along-y t)),
+          (eqZ-eq ((a .x +ℤ b .x) *ℤ pos (d .e)) (pos 2 *ℤ d .x) (and-left along-x along-y t)),
       scaled (a .y +ℤ b .y) (pos (d .e)) (pos 2 *ℤ d .y) g (F .e) (pos 2 *ℤ F .cy) (w .e-is) (twice-scaled g (d .y) (F .cy) (w .y-is))
-          (eqZ→eq ((a .y +ℤ b .y) *ℤ pos (d .e)) (pos 2 *ℤ d .y) (and-right along-x along-y t)),
+          (eqZ-eq ((a .y +ℤ b .y) *ℤ pos (d .e)) (pos 2 *ℤ d .y) (and-right along-x along-y t)),
     )
 
     pub strong-two : StronglyMinimal (a ∷ b ∷ []) [] F → T (fits d (a ∷ b ∷ []))
     unfolding fits opposite midway
     strong-two m = and-both along-x along-y
-        (eq→eqZ ((a .x +ℤ b .x) *ℤ pos (d .e)) (pos 2 *ℤ d .x)
+        (eq-eqZ ((a .x +ℤ b .x) *ℤ pos (d .e)) (pos 2 *ℤ d .x)
         (unscaled (a .x +ℤ b .x) (pos (d .e)) (pos 2 *ℤ d .x) g (F .e) (pos 2 *ℤ F .cx) factor (w .e-is) (twice-scaled g (d .x) (F .cx) (w .x-is))
         (centre .0)))
-        (eq→eqZ ((a .y +ℤ b .y) *ℤ pos (d .e)) (pos 2 *ℤ d .y)
+        (eq-eqZ ((a .y +ℤ b .y) *ℤ pos (d .e)) (pos 2 *ℤ d .y)
         (unscaled (a .y +ℤ b .y) (pos (d .e)) (pos 2 *ℤ d .y) g (F .e) (pos 2 *ℤ F .cy) factor (w .e-is) (twice-scaled g (d .y) (F .cy) (w .y-is))
         (centre .1)))
       where

@@ -4,8 +4,7 @@ use geometry::Point;
 ghost use mathlib.Core.Path.{_≡_};
 ghost use lib.Dec.{T};
 ghost use lib.IntN.{pos, _-ℤ_, _*ℤ_};
-ghost use Rattle.geometry.specs.EmBox.{em, inEmBox};
-ghost use Rattle.disks.specs.Limits.{WithinLimits};
+ghost use Rattle.geometry.specs.EmBox.{em, inEmBox, WithinLimits};
 ghost use Rattle.support_tests.specs.Tests.{onBoundaryTest, midway, opposite, acuteAt, acute, Small, SmallDisk};
 
 // v·e − c

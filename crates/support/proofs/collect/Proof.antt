@@ -13,18 +13,17 @@ use lib.Signed.{ltZ}
 use mir.Syntax.{w16}
 use mir.Val.{toZ, ofZ}
 use mir.Facts.{toZ-ofZ}
-use Rattle.integers.specs.Bounds.{and-left, and-right}
-use Rattle.integers.specs.Order.{<-≤-clash, ≤-of-<}
+use Rattle.integers.proofs.Tests.{and-left, and-right}
+use Rattle.integers.proofs.Order.{<-≤-clash, ≤-of-<}
 use Rattle.geometry.specs.declared.Point.{Point}
 use Rattle.geometry.specs.Points.{points, pointAt, firstPoints}
-use Rattle.geometry.specs.EmBox.{em, inEmBox}
+use Rattle.geometry.specs.EmBox.{em, inEmBox, WithinLimits}
 use Rattle.geometry.proofs.EmBox.{box-members}
 use Rattle.geometry.proofs.PointLists.{length-firstPoints, firstPoints-next, firstPoints-whole}
 use Rattle.geometry.proofs.PointRows.{points-some, pointAt-in}
 use Rattle.point_lists.specs.Sets.{In}
 use Rattle.point_lists.specs.Rising.{insert}
 use Rattle.point_lists.proofs.Rising.{insert-new, insert-length}
-use Rattle.disks.specs.Limits.{WithinLimits}
 use Rattle.support_tests.proofs.Numbers.{limits-small}
 use Rattle.support_span.specs.Span.{Spanned, Spans}
 use Rattle.support_span.proofs.Spans.{spanned-more}

@@ -2,7 +2,7 @@
 use lib.IntN.{pos, _+ℤ_, _*ℤ_}
 use mir.Syntax.{w64}
 use mir.Val.{toZ, ofZ}
-use Rattle.integers.specs.Bounds.{Value, v-add, v-mul, v-back, v-abs, fits, eq-test}
+use Rattle.integers.proofs.Bounds.{Value, v-add, v-mul, v-back, v-abs, fits, eq-test}
 use Rattle.support_tests.specs.Tests.{onBoundaryTest}
 use Rattle.support_tests.proofs.Numbers.{stored-small, offset-value, limits-small, near-x, near-y, s-small}
 use Rattle.support_tests.proofs.on_boundary.Statement.{statement}

@@ -1,7 +1,7 @@
 -- `exports::radius_answer` meets its contract: each case of the answer is `radiusAnswer` of its outcome.
 use mathlib.Core.Path.{_∙_}
 use borrow.Author.Needs.{needs}
-use Rattle.record.specs.Radius.{outcome}
+use Rattle.radius.specs.Radius.{outcome}
 use Rattle.exports.specs.Answers.{radiusAnswer}
 use Rattle.exports.proofs.Known.{known-outcome}
 use Rattle.exports.proofs.radius.radius_answer.Statement.{statement}

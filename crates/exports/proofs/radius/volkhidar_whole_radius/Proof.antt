@@ -4,7 +4,7 @@ use mathlib.Core.List.{List}
 use borrow.Author.Needs.{needs}
 use Rattle.geometry.specs.declared.Point.{Point}
 use Rattle.geometry.specs.declared.Disk.{Disk}
-use Rattle.record.specs.Radius.{radiusOf}
+use Rattle.radius.specs.Radius.{radiusOf}
 use Rattle.exports.specs.Support.{setPoints}
 use Rattle.exports.specs.Answers.{radiusAnswer}
 use Rattle.exports.proofs.NoSet.{no-radius}

@@ -1,7 +1,7 @@
 -- `exports::volkhidar_read_record` meets its contract: each case of the answer is `recordAnswer` of its outcome.
 use mathlib.Core.Path.{ap, _∙_}
 use borrow.Author.Needs.{needs}
-use Rattle.record.specs.Reading.{outcome}
+use Rattle.record_reader.specs.Reading.{outcome}
 use Rattle.exports.specs.declared.answer.Support.{Support}
 use Rattle.exports.specs.Answers.{recordAnswer}
 use Rattle.exports.proofs.Known.{known-outcome}

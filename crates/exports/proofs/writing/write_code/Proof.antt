@@ -1,7 +1,7 @@
 -- `exports::write_code` meets its contract: each case of the answer is `codeOf` of its outcome, and the buffer is as the writer leaves it.
 use mathlib.Core.Path.{_∙_}
 use borrow.Author.Needs.{needs}
-use Rattle.record.specs.Writing.{outcome}
+use Rattle.record_writer.specs.Writing.{outcome}
 use Rattle.exports.specs.Answers.{codeOf}
 use Rattle.exports.proofs.Known.{known-outcome}
 use Rattle.exports.proofs.writing.write_code.Statement.{statement}
