@@ -19,11 +19,11 @@ use lib.Signed.{_<ℤ_, ltZ, leZ, quotZ}
 use Rattle.integers.proofs.Tests.{below, not-below}
 use Rattle.integers.proofs.Ring.{ring, poly}
 use Rattle.integers.proofs.Order.{positive, lt, eq, nn, _⊞_, _⊠_, <-cancel}
+use Rattle.divisors.specs.Divisor.{gcd, steps}
 use Rattle.geometry.specs.declared.Point.{Point}
 use Rattle.geometry.specs.declared.Disk.{Disk}
 use Rattle.geometry.specs.Plane.{distance, holds}
 use Rattle.point_lists.specs.Sets.{Different}
-use Rattle.divisors.specs.Divisor.{gcd, steps}
 use Rattle.disks.specs.Procedure.{Cover, empty, disk, outside, lowestTerms, pointDisk, diameterDisk, turnedBy, circle, boundaryDisk, State, tested, step, through, start, run, norm, diskIn, diskOf, testsOf, orderOf}
 use Rattle.disks.proofs.Lifted.{Lifted, value, squaredRadius}
 use Rattle.disks.proofs.Minimal.{Feasible, StronglyMinimal}
