@@ -20,9 +20,9 @@ use lib.Signed.{natAbs-le}
 use mir.Syntax.{w16, w64}
 use mir.Val.{SFits, toZ, ofZ}
 use mir.Facts.{toZ-ofZ}
+use Rattle.integers.specs.Order.{_≼_}
 use Rattle.integers.proofs.Tests.{test-true}
 use Rattle.integers.proofs.Bounds.{Value, v-add, v-neg, v-back, v-eq, v-fits, v-abs, reads-as, at-most, within-range}
-use Rattle.integers.specs.Order.{_≼_}
 use Rattle.integers.proofs.Order.{pos-le, nn-nat, nonneg, le, _⊞_, _⊠_}
 use Rattle.integers.proofs.Ring.{poly}
 use Rattle.geometry.specs.declared.Point.{Point}
