@@ -26,9 +26,9 @@ use Rattle.disks.specs.Support.{sorted, choose, sameDisk, supports, firs
 pub use Rattle.disks.specs.Support.{candidates}
 use Rattle.disks.specs.FirstSupport.{Rising, IsSupport, Lexical, here, there, Earlier, fewer, lexical, IsFirstSupport}
 use Rattle.disks.proofs.Minimal.{same-refl, same-sym, strong-same}
-use Rattle.disks.proofs.LiftedProcedure.{mtf}
+use Rattle.disks.proofs.LiftedProcedure.{liftedMtf}
 use Rattle.disks.proofs.Correct.{mtf-strong}
-use Rattle.disks.proofs.Support.{SupportSet, Supported, one, two, three, support}
+use Rattle.disks.proofs.SupportPoints.{Supporting, Supported, one, two, three, support}
 use Rattle.disks.proofs.Bridge.{strong-written, diskOf-lowered}
 use Rattle.disks.proofs.StrongSmallest.{strong-smallest}
 use Rattle.disks.proofs.OneWriting.{smallest-same}
@@ -210,7 +210,7 @@ module _ (p : Point) (P : List Point) where
   to-sorted S f x i = sorted-same L .to x (f x i)
 
   -- a support set, sorted, is a candidate that passes
-  some-set : (S : List Point) → SupportSet L S (mtf L .disk) → (a : Point) → In a S → length S ≤ 3 → Passes (supports L) (candidates (sorted L)) found
+  some-set : (S : List Point) → Supporting L S (liftedMtf L .disk) → (a : Point) → In a S → length S ≤ 3 → Passes (supports L) (candidates (sorted L)) found
   some-set S s a i h = first-passes (supports L) (candidates (sorted L)) (candidates-earlier (sorted L) (sorted-rises L)) (sorted S)
       (a-candidate (sorted L) (sorted S) (sorted-rises L) (record {
         rises = sorted-rises S;
@@ -225,7 +225,7 @@ module _ (p : Point) (P : List Point) where
       long : 1 ≤ length (sorted S)
       long = not-empty (sorted S) (sorted-same S .to a i)
 
-  there-is : Supported L (mtf L .disk) → Passes (supports L) (candidates (sorted L)) found
+  there-is : Supported L (liftedMtf L .disk) → Passes (supports L) (candidates (sorted L)) found
   there-is (one a s) = some-set (a ∷ []) s a (List·Memᴰ·head refl) (omega arith)
   there-is (two a b s) = some-set (a ∷ b ∷ []) s a (List·Memᴰ·head refl) (omega arith)
   there-is (three a b c s) = some-set (a ∷ b ∷ c ∷ []) s a (List·Memᴰ·head refl) (omega arith)

@@ -17,6 +17,7 @@ use lib.IntN.{ℤ}
 use lib.ListN.{length}
 use lib.Dec.{T}
 use lib.Signed.{_<ℤ_, ltZ, leZ}
+use Rattle.integers.specs.Between.{true-test}
 use Rattle.integers.specs.Bounds.{and-left, and-right}
 use Rattle.integers.specs.Order as O
 use Rattle.integers.specs.Order.{≤-of-eq, ≤-antisym, ≤-refl, <-trans, <-≤-clash, <-≤-trans, ≤-<-trans}
@@ -180,15 +181,12 @@ pub insert-rises : (p : Point) (l : List Point) → Rising l → Rising (insert 
 insert-rises p [] r = rw insert-none (none-of (λ q. T (before p q)), tt)
 insert-rises p (q ∷ l) r = go (insert-rises p l (r .1)) (placed p q)
   where
-    is-true : {b : Bool} → b ≡ true → T b
-    is-true e = subst T (sym e) tt
-
     after : before q p ≡ true → (x : Point) → (x ≡ p) ⊎ In x l → T (before q x)
-    after h x (inl e) = subst (λ (y : Point). T (before q y)) (sym e) (is-true h)
+    after h x (inl e) = subst (λ (y : Point). T (before q y)) (sym e) (true-test h)
     after h x (inr i) = r .0 x i
 
     go : Rising (insert p l) → Placed p q → Rising (insert p (q ∷ l))
-    go s (ahead e) = rw (insert-ahead p q l e) (also (λ x. T (before p x)) (is-true e) (λ x i. before-trans p q x (is-true e) (r .0 x i)), r)
+    go s (ahead e) = rw (insert-ahead p q l e) (also (λ x. T (before p x)) (true-test e) (λ x i. before-trans p q x (true-test e) (r .0 x i)), r)
     go s (behind e h) = rw (insert-behind p q l e h) (λ x i. after h x (insert-in p l i), s)
     go s (level e h t) = rw (insert-level p q l e h) r
 

@@ -18,7 +18,7 @@ use Rattle.geometry.specs.declared.Point.{Point}
 use Rattle.disks.proofs.Lifted.{Lifted, value, gap, combine, value-combine, gap-combine, gap-self, squaredRadius}
 use Rattle.disks.proofs.Minimal.{In, Feasible, StronglyMinimal}
 use Rattle.disks.proofs.Base.{positive-one}
-use Rattle.disks.proofs.Triple.{turn, turned, circle, tripleDisk}
+use Rattle.disks.proofs.Triple.{turn, turned, vanishing, tripleForm}
 use Rattle.disks.specs.Smallest.{RationalDisk, Fits}
 use Rattle.disks.proofs.StrongSmallest.{lifted-least}
 
@@ -178,9 +178,9 @@ module _ (x0 y0 l : ℤ) (hl : pos 0 ≤ℤ l) where
   minus-twice-le : (w : ℤ) → negℤ w ≤ℤ (l *ℤ l) → negℤ (pos 2 *ℤ w) ≤ℤ (pos 2 *ℤ (l *ℤ l))
   minus-twice-le w h = nonneg (w ∷ l ∷ []) (nn 2 ⊠ le h) (search poly depth 30) tt
 
-  pub triple-weight : (a b c : Point) → Box x0 y0 l a → Box x0 y0 l b → Box x0 y0 l c → tripleDisk a b c .e ≤ℤ (pos 2 *ℤ (l *ℤ l))
-  triple-weight a b c ha hb hc = go (ltZ (circle a b c .e) (pos 0))
+  pub triple-weight : (a b c : Point) → Box x0 y0 l a → Box x0 y0 l b → Box x0 y0 l c → tripleForm a b c .e ≤ℤ (pos 2 *ℤ (l *ℤ l))
+  triple-weight a b c ha hb hc = go (ltZ (vanishing a b c .e) (pos 0))
     where
-      go : (s : Bool) → turned s (circle a b c) .e ≤ℤ (pos 2 *ℤ (l *ℤ l))
+      go : (s : Bool) → turned s (vanishing a b c) .e ≤ℤ (pos 2 *ℤ (l *ℤ l))
       go true = minus-twice-le (turn a b c) (subst (λ (z : ℤ). z ≤ℤ (l *ℤ l)) (sym (back a b c)) (turn-bound a c b ha hc hb))
       go false = twice-le (turn a b c) (turn-bound a b c ha hb hc)

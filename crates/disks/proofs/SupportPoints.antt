@@ -1,10 +1,9 @@
 -- A strongly minimal disk is fixed by one to three points of its boundary (000, Lemma 1 (iii)).
 --
 --   BoundaryOf F P              == the points of P on the boundary of F
---   SupportSet P T F       == T: different points of P on the boundary of F whose own strongly minimal disk is F
+--   Supporting P T F       == T: different points of P on the boundary of F whose own strongly minimal disk is F
 --   Supported P F          == a support set of one, two or three points
 --   support                : every strongly minimal disk of a list, no point fixed, has one
---   mtf-support            : so does the disk on which the procedure ends
 use mathlib.Core.Path.{_≡_, refl, sym, _∙_, subst}
 use mathlib.Core.Logic.{_⊎_, inl, inr, _≢_}
 use mathlib.Core.List.{List, [], _∷_, List·Memᴰ·head, List·Memᴰ·tail, List·Memᴰ·cases-cons, List·Memᴰ·not-nil, List·Memᴰ·eq-of-singleton}
@@ -18,9 +17,7 @@ use Rattle.disks.proofs.Minimal.{In, none-of, also, StronglyMinimal}
 use Rattle.disks.proofs.Triple.{Different}
 use Rattle.disks.proofs.Arms.{cross, Opposite, cross-self}
 use Rattle.disks.proofs.Cone.{Cone, Placed, opposite, around, cone, placed}
-use Rattle.disks.proofs.Weights.{arm, boundary-length, one-strong, two-strong, three-strong, no-side}
-use Rattle.disks.proofs.LiftedProcedure.{mtf}
-use Rattle.disks.proofs.Correct.{mtf-strong}
+use Rattle.disks.proofs.AboutCentre.{arm, boundary-length, one-strong, two-strong, three-strong, no-side}
 
 -- ---- the points on the boundary
 
@@ -54,16 +51,16 @@ boundaryOf F (q ∷ P) = go (boundaryOf F P) (compared (value F q) (pos 0))
 
 -- ---- support sets
 
-pub record SupportSet (P T : List Point) (F : Lifted) : Type 0 where
+pub record Supporting (P T : List Point) (F : Lifted) : Type 0 where
   pub members : (p : Point) → In p T → In p P
   pub on-boundary : (p : Point) → In p T → value F p ≡ pos 0
   pub different : Different T
   pub own : StronglyMinimal T [] F
 
 pub data Supported (P : List Point) (F : Lifted) : Type 0 where
-  one : (a : Point) → SupportSet P (a ∷ []) F → Supported P F
-  two : (a b : Point) → SupportSet P (a ∷ b ∷ []) F → Supported P F
-  three : (a b c : Point) → SupportSet P (a ∷ b ∷ c ∷ []) F → Supported P F
+  one : (a : Point) → Supporting P (a ∷ []) F → Supported P F
+  two : (a b : Point) → Supporting P (a ∷ b ∷ []) F → Supported P F
+  three : (a b c : Point) → Supporting P (a ∷ b ∷ c ∷ []) F → Supported P F
 
 -- ---- points with different arms are different
 
@@ -152,6 +149,3 @@ module _ {P : List Point} {F : Lifted} (m : StronglyMinimal P [] F) where
 
 pub support : {P : List Point} {F : Lifted} → StronglyMinimal P [] F → Supported P F
 support {P} {F} m = let r = boundaryOf F P in from-boundary m (r .points) (r .inside) (r .on-boundary) (r .all)
-
-pub mtf-support : (p : Point) (P : List Point) → Supported (p ∷ P) (mtf (p ∷ P) .disk)
-mtf-support p P = support (mtf-strong p P)
