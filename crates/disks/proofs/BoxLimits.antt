@@ -4,7 +4,7 @@
 --   BoxLimits x0 y0 l F   == the centre lies in that square, and S/E² is at most l²/2
 --   centre-side           : a half plane that has all points has the centre
 --   box-limits            : so a strongly minimal disk of points of the square has these limits
---   turn-bound, triple-weight : twice the area of a triangle in a square is at most the square, so E is at most twice the square
+--   turn-bound, turned-weight, triple-weight : twice the area of a triangle in a square is at most the square, so E is at most twice the square
 use mathlib.Core.Path.{_≡_, sym, _∙_, ap, subst}
 use mathlib.Core.Logic.{_⊎_, inl, inr}
 use mathlib.Core.Bool.{Bool, true, false}
@@ -178,9 +178,10 @@ module _ (x0 y0 l : ℤ) (hl : pos 0 ≤ℤ l) where
   minus-twice-le : (w : ℤ) → negℤ w ≤ℤ (l *ℤ l) → negℤ (pos 2 *ℤ w) ≤ℤ (pos 2 *ℤ (l *ℤ l))
   minus-twice-le w h = nonneg (w ∷ l ∷ []) (nn 2 ⊠ le h) (search poly depth 30) tt
 
+  pub turned-weight : (s : Bool) (a b c : Point) → Box x0 y0 l a → Box x0 y0 l b → Box x0 y0 l c → turned s (vanishing a b c) .e ≤ℤ (pos 2 *ℤ (l *ℤ l))
+  turned-weight true a b c ha hb hc =
+      minus-twice-le (turn a b c) (subst (λ (z : ℤ). z ≤ℤ (l *ℤ l)) (sym (back a b c)) (turn-bound a c b ha hc hb))
+  turned-weight false a b c ha hb hc = twice-le (turn a b c) (turn-bound a b c ha hb hc)
+
   pub triple-weight : (a b c : Point) → Box x0 y0 l a → Box x0 y0 l b → Box x0 y0 l c → tripleForm a b c .e ≤ℤ (pos 2 *ℤ (l *ℤ l))
-  triple-weight a b c ha hb hc = go (ltZ (vanishing a b c .e) (pos 0))
-    where
-      go : (s : Bool) → turned s (vanishing a b c) .e ≤ℤ (pos 2 *ℤ (l *ℤ l))
-      go true = minus-twice-le (turn a b c) (subst (λ (z : ℤ). z ≤ℤ (l *ℤ l)) (sym (back a b c)) (turn-bound a c b ha hc hb))
-      go false = twice-le (turn a b c) (turn-bound a b c ha hb hc)
+  triple-weight a b c ha hb hc = turned-weight (ltZ (vanishing a b c .e) (pos 0)) a b c ha hb hc

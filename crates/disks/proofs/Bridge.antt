@@ -3,8 +3,8 @@
 --   coverOf F              == a lifted disk as a cover (E = 0 is the empty disk)
 --   Agree s t              == the state s has the cover and the list of the lifted state t
 --   outside-cover          : the two tests agree
---   boundary-cover         : the two disks with one, two or three points on the boundary agree
---   one-lowest             : a point as a disk is in lowest terms
+--   point-lowered, diameter-lowered, circle-lowered : the disks of one, two and three points are the lifted ones in lowest terms
+--   boundary-cover, full-cover : the two disks with R on the boundary agree
 --   run-agree              : the two runs agree, wherever some disk is feasible and R has at most three points, all different
 --   mtf-cover, diskOf-lowered : so from no point fixed
 use mathlib.Core.Path.{_≡_, refl, sym, _∙_, ap, subst, subst₂}
@@ -86,7 +86,7 @@ quotient-one : (z : ℤ) → quotZ z (pos 1) ≡ z
 quotient-one (pos n) = ap pos (div-one n)
 quotient-one (negsuc n) = ap (λ (m : ℕ). negℤ (pos m)) (div-one (suc n))
 
-pub one-lowest : (a : Point) → lowestTerms (a .x) (a .y) 1 0 ≡ pointDisk a
+one-lowest : (a : Point) → lowestTerms (a .x) (a .y) 1 0 ≡ pointDisk a
 unfolding lowestTerms
 one-lowest a = ap (λ (g : ℕ). record { x = quotZ (a .x) (pos g); y = quotZ (a .y) (pos g); e = 1 / g; s = 0 / (g * g) })
     (gcd-one (gcd (natAbs (a .x)) (natAbs (a .y))))
@@ -103,7 +103,7 @@ twice-negative w = same-ltZ (pos 2 *ℤ w) (pos 0) w (pos 0)
     (λ h. <-cancel {k = pos 2} (positive [] (nn 1) (search poly depth 30) tt) (positive (w ∷ []) (lt h) (search poly depth 30) tt))
     (λ h. positive (w ∷ []) (nn 2 ⊠ lt h ⊞ nn 1) (search poly depth 30) tt)
 
-pub lowest-same : {X X' Y Y' : ℤ} {E E' S S' : ℕ} → X ≡ X' → Y ≡ Y' → E ≡ E' → S ≡ S' → lowestTerms X Y E S ≡ lowestTerms X' Y' E' S'
+lowest-same : {X X' Y Y' : ℤ} {E E' S S' : ℕ} → X ≡ X' → Y ≡ Y' → E ≡ E' → S ≡ S' → lowestTerms X Y E S ≡ lowestTerms X' Y' E' S'
 lowest-same hx hy he hs = λ i. lowestTerms (hx i) (hy i) (he i) (hs i)
 
 -- the disk with centre a + (gx, gy)/2w, lifted
@@ -142,17 +142,24 @@ by-sign a (pos n) gx gy = lowest-same refl refl refl (ap natAbs (around-radius a
 by-sign a (negsuc n) gx gy = lowest-same (negated-centre (a .x) (pos (suc n)) gx) (negated-centre (a .y) (pos (suc n)) gy)
     (ap natAbs (negated-weight (pos (suc n)))) (ap natAbs (negated-radius a (negsuc n) gx gy))
 
-circle-lowered : (a b c : Point) → circle a b c ≡ lowered (tripleForm a b c)
+pub circle-lowered : (a b c : Point) → circle a b c ≡ lowered (tripleForm a b c)
 unfolding circle
 circle-lowered a b c = by-sign a (turn a b c) (C.gx a b c) (C.gy a b c) ∙ ap (λ (t : Bool). lowered (turned t (vanishing a b c)))
     (sym (twice-negative (turn a b c)))
 
+pub point-lowered : (a : Point) → pointDisk a ≡ lowered (pointForm a)
+point-lowered a = sym (lowest-same refl refl refl (ap natAbs (point-radius a)) ∙ one-lowest a)
+
+pub diameter-lowered : (a b : Point) → diameterDisk a b ≡ lowered (pairForm a b)
+unfolding diameterDisk
+diameter-lowered a b = lowest-same refl refl refl (ap natAbs (sym (pair-radius a b)))
+
 -- with room in R, whatever it is; R of three where the lifted disk is a disk
 pub boundary-cover : (R : List Point) → length R ≤ 2 → boundaryDisk R ≡ coverOf (boundaryForm R)
-unfolding boundaryDisk coverBy boundaryForm diameterDisk
+unfolding boundaryDisk coverBy boundaryForm
 boundary-cover [] h = refl
-boundary-cover (a ∷ []) h = ap disk (sym (lowest-same refl refl refl (ap natAbs (point-radius a)) ∙ one-lowest a))
-boundary-cover (a ∷ b ∷ []) h = ap disk (lowest-same refl refl refl (ap natAbs (sym (pair-radius a b))))
+boundary-cover (a ∷ []) h = ap disk (point-lowered a)
+boundary-cover (a ∷ b ∷ []) h = ap disk (diameter-lowered a b)
 boundary-cover (a ∷ b ∷ c ∷ R) h = absurd (omega arith)
 
 pub full-cover : (R : List Point) → length R ≡ 3 → pos 0 <ℤ boundaryForm R .e → boundaryDisk R ≡ coverOf (boundaryForm R)

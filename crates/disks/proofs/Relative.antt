@@ -4,13 +4,16 @@
 --   relative-value       : p is outside where and only where |d|²·E > 2(d·g), d = p − q
 --   relative-radius      : S = |g|²
 --   point-relative, pair-relative : the disks of one and two points are of this form (and `vanishing` by its definition)
+--   turned-relative      : so is such a disk turned round
 use mathlib.Core.Path.{_≡_, refl}
+use mathlib.Core.Bool.{true}
 use mathlib.Core.List.{[], _∷_}
-use lib.IntN.{ℤ, pos, _+ℤ_, _-ℤ_, _*ℤ_}
+use lib.IntN.{ℤ, pos, negℤ, _+ℤ_, _-ℤ_, _*ℤ_}
 use Rattle.integers.specs.Ring.{ring, poly}
 use Rattle.geometry.specs.declared.Point.{Point}
 use Rattle.disks.proofs.Lifted.{Lifted, value, squaredRadius}
 use Rattle.disks.proofs.Base.{pointForm, pairForm}
+use Rattle.disks.proofs.Triple.{turned}
 
 abbrev pub relative : Point → ℤ → ℤ → ℤ → Lifted
 relative q e gx gy = record {
@@ -38,3 +41,8 @@ pub pair-relative : (q r : Point) → pairForm q r ≡ relative q (pos 2) (r .x 
 pair-relative q r = lifted-path refl (ring (q .x ∷ q .y ∷ r .x ∷ r .y ∷ []) (search poly depth 30) tt)
     (ring (q .x ∷ q .y ∷ r .x ∷ r .y ∷ []) (search poly depth 60 fits 9000) tt)
     (ring (q .x ∷ q .y ∷ r .x ∷ r .y ∷ []) (search poly depth 60 fits 9000) tt)
+
+-- turned round
+pub turned-relative : (q : Point) (e gx gy : ℤ) → turned true (relative q e gx gy) ≡ relative q (negℤ e) (negℤ gx) (negℤ gy)
+turned-relative q e gx gy = lifted-path refl (ring (q .x ∷ e ∷ gx ∷ []) (search poly depth 30) tt) (ring (q .y ∷ e ∷ gy ∷ []) (search poly depth 30) tt)
+    (ring (q .x ∷ q .y ∷ e ∷ gx ∷ gy ∷ []) (search poly depth 30) tt)

@@ -13,22 +13,22 @@ use borrow.Fn.PlainCycle.{Measures, is, falls, and}
 use Rattle.geometry.specs.EmBox.{inEmBox}
 use Rattle.geometry.specs.Points.{pointAt}
 use Rattle.geometry.proofs.PointLists.{pointAt-firstPoints}
-use Rattle.welzl.specs.declared.Boundary.{Boundary}
-use Rattle.welzl.specs.Boundary.{members, roomIn, added}
-use Rattle.welzl.specs.Relative.{isOutside}
-use Rattle.welzl.specs.Ran.{Boxed, Ran}
-use Rattle.welzl.proofs.RelativeLaws.{near-box}
+use Rattle.relative_disks.specs.Relative.{isOutside}
+use Rattle.relative_disks.proofs.RelativeLaws.{near-box}
+use Rattle.fixed_points.specs.declared.Boundary.{Boundary}
+use Rattle.fixed_points.specs.Boundary.{members, roomIn, added, Boxed}
+use Rattle.welzl.specs.Ran.{Ran}
 use Rattle.welzl.proofs.RunLaws.{room-falls}
 use Rattle.welzl.proofs.RanLaws.{ran-full, ran-none, ran-kept, ran-moved, ran-length, ran-tests, point-same, prefix-boxed, added-boxed}
 use Rattle.welzl.proofs.mtf.Reads as mtf
 use Rattle.welzl.proofs.mtf.Kinds as mtf-kinds
 use Rattle.welzl.proofs.+mtf.Lts-mtf as lts
 use Rattle.geometry.proofs.point_at.Reads as point-at-reads
-use Rattle.welzl.proofs.add_point.Reads as add-point-reads
-use Rattle.welzl.proofs.boundary_disk.Reads as boundary-disk-reads
-use Rattle.welzl.proofs.is_outside.Reads as is-outside-reads
-use Rattle.welzl.proofs.move_to_front.Reads as move-to-front-reads
-use Rattle.welzl.proofs.room.Reads as room-reads
+use Rattle.fixed_points.proofs.add_point.Reads as add-point-reads
+use Rattle.fixed_points.proofs.boundary_disk.Reads as boundary-disk-reads
+use Rattle.relative_disks.proofs.is_outside.Reads as is-outside-reads
+use Rattle.point_moves.proofs.move_to_front.Reads as move-to-front-reads
+use Rattle.fixed_points.proofs.room.Reads as room-reads
 use Rattle.welzl.proofs.+mtf.{statement}
 use Rattle.welzl.proofs.+mtf.Tie.{close}
 
