@@ -70,7 +70,8 @@ pair-strong q r = record {
     on-boundary = also On (pair-first q r)
         (also On (pair-second q r) (none-of On));
   };
-  least = λ G f. ≤-of-eq (sym (pair-gap q r G ∙ twice-none (f .on-boundary q (List·Memᴰ·head refl)) (f .on-boundary r (List·Memᴰ·tail (List·Memᴰ·head refl)))));
+  least = λ G f. ≤-of-eq (sym (pair-gap q r G ∙ twice-none (f .on-boundary q (List·Memᴰ·head refl))
+      (f .on-boundary r (List·Memᴰ·tail (List·Memᴰ·head refl)))));
 }
   where
     On : Point → Type 0

@@ -14,7 +14,8 @@ use Rattle.integers.specs.Ring.{poly}
 use Rattle.integers.specs.Order.{≤-of-eq, ≤-of-<, ≤-or-<, positive, clash, le, lt, eq, nn, _⊞_, _⊠_, <-≤-clash, Compared, less, same, more, compared}
 use Rattle.geometry.specs.declared.Point.{Point}
 use Rattle.disks.proofs.Minimal.{In, also}
-use Rattle.disks.proofs.Arms.{dot, cross, Opposite, cone-product, exchange-l, exchange-r, back-r, back-l, dot-comm, cross-self, parallel, sign-between, sign-front, wide-arms, both-zero, flip}
+use Rattle.disks.proofs.Arms.{dot, cross, Opposite, cone-product, exchange-l, exchange-r, back-r, back-l, dot-comm, cross-self, parallel}
+use Rattle.disks.proofs.Arms.{sign-between, sign-front, wide-arms, both-zero, flip}
 
 no-turn : {X : Type 0} (w m u p v q : ℤ) → w *ℤ m ≡ u *ℤ p +ℤ v *ℤ q → pos 0 ≡ w → u <ℤ pos 0 → pos 0 <ℤ p → v <ℤ pos 0 → pos 0 <ℤ q → X
 no-turn w m u p v q e z hu hp hv hq = clash (w ∷ m ∷ u ∷ p ∷ v ∷ q ∷ []) (lt hu ⊠ lt hp ⊞ lt hu ⊞ lt hp ⊞ le (≤-of-< hv) ⊠ le (≤-of-< hq)

@@ -8,7 +8,8 @@
 use mathlib.Core.Path.{_≡_, refl, sym, subst}
 use mathlib.Core.Logic.{_⊎_, inl, inr}
 use mathlib.Core.Bool.{Bool, true, false, not}
-use mathlib.Core.List.{List, [], _∷_, _++_, append-assoc, append-nil, List·Memᴰ·cases-cons, List·Memᴰ·not-nil, Memᴰ·append-left, List·Permᴰ, List·Permᴰ·nil, List·Permᴰ·cons, List·Permᴰ·trans, Permᴰ·refl, Permᴰ·symm, Permᴰ·append-right}
+use mathlib.Core.List.{List, [], _∷_, _++_, append-assoc, append-nil, List·Memᴰ·cases-cons, List·Memᴰ·not-nil, Memᴰ·append-left, List·Permᴰ}
+use mathlib.Core.List.{List·Permᴰ·nil, List·Permᴰ·cons, List·Permᴰ·trans, Permᴰ·refl, Permᴰ·symm, Permᴰ·append-right}
 use Prim.Native.Nat.{ℕ, zero, suc, _+_, _-_, _≤_}
 use native.Mathlib.Omega.{arith}
 use lib.IntN.{ℤ, pos, negℤ, _+ℤ_, _-ℤ_, _*ℤ_}
@@ -19,10 +20,12 @@ use Rattle.integers.specs.Ring.{poly}
 use Rattle.integers.specs.Order.{≤-of-eq, ≤-trans, nonneg, nn, sq, le, _⊞_, <-≤-clash}
 use Rattle.geometry.specs.declared.Point.{Point}
 use Rattle.disks.proofs.Lifted.{Lifted, value, noDisk, value-none}
-use Rattle.disks.proofs.Minimal.{In, Feasible, StronglyMinimal, Below, Same, same-sym, feasible-same, strong-same, strong-below, none-below, throughPoint, to-boundary, step-strong, held}
+use Rattle.disks.proofs.Minimal.{In, Feasible, StronglyMinimal, Below, Same, same-sym, feasible-same, strong-same, strong-below, none-below}
+use Rattle.disks.proofs.Minimal.{throughPoint, to-boundary, step-strong, held}
 use Rattle.disks.proofs.Base.{point-strong, pair-strong, positive-one}
 use Rattle.disks.proofs.Triple.{Different, triple-strong}
-use Rattle.disks.proofs.LiftedProcedure.{LiftedState, boundaryForm, liftedOutside, liftedTested, turn-at, one-by-one, liftedStart, runWith, liftedRun, liftedMtf}
+use Rattle.disks.proofs.LiftedProcedure.{LiftedState, boundaryForm, liftedOutside, liftedTested, turn-at, one-by-one, liftedStart, runWith}
+use Rattle.disks.proofs.LiftedProcedure.{liftedRun, liftedMtf}
 use Rattle.disks.proofs.Lists.{perm-same, last-first}
 
 -- ---- what was found

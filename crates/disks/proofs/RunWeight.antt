@@ -54,7 +54,8 @@ module _ (x0 y0 l : ℤ) (hl : pos 0 <ℤ l) where
   tested-small true s p again h k a = record { weight = a .weight; boxed = also (Box x0 y0 l) k (a .boxed) }
   tested-small false s p again h k a = record { weight = h .weight; boxed = boxed-last (s .left) p (h .boxed) k }
 
-  one-by-one-small : (f : LiftedState → Point → LiftedState) → ((s : LiftedState) (p : Point) → Light s → Box x0 y0 l p → Light (f s p)) → (s : LiftedState) (P : List Point)
+  one-by-one-small : (f : LiftedState → Point → LiftedState) → ((s : LiftedState) (p : Point) → Light s → Box x0 y0 l p → Light (f s p)) →
+      (s : LiftedState) (P : List Point)
       → Light s → Boxed P → Light (one-by-one f s P)
   unfolding one-by-one
   one-by-one-small f h s [] k b = k

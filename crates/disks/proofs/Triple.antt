@@ -218,4 +218,5 @@ triple-strong {P} {a} {b} {c} {G} f d = record {
 
     on : (q : Point) → In q (a ∷ b ∷ c ∷ []) → On q
     on = also On (turned-vanishes s (vanishing a b c) a (vanishing-a a b c))
-        (also On (turned-vanishes s (vanishing a b c) b (vanishing-b a b c)) (also On (turned-vanishes s (vanishing a b c) c (vanishing-c a b c)) (none-of On)))
+        (also On (turned-vanishes s (vanishing a b c) b (vanishing-b a b c))
+        (also On (turned-vanishes s (vanishing a b c) c (vanishing-c a b c)) (none-of On)))

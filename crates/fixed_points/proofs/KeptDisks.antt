@@ -1,7 +1,7 @@
 -- The disks of none to three points of the em box, relative to the first: each is the text's, and its numbers are small.
 --
 --   keeps-none, keeps-point, keeps-diameter, keeps-circle : Keeps, of `boundaryDisk` of so many points
-use mathlib.Core.Path.{_≡_, refl, sym, _∙_, ap, ap₂, subst}
+use mathlib.Core.Path.{_≡_, refl, _∙_, ap, subst}
 use mathlib.Core.Bool.{Bool, true, false}
 use mathlib.Core.List.{[], _∷_}
 use Prim.Native.Nat.{ℕ}
@@ -16,7 +16,6 @@ use Rattle.integers.specs.Ring.{ring, poly}
 use Rattle.geometry.specs.declared.Point.{Point}
 use Rattle.geometry.specs.declared.Disk.{Disk}
 use Rattle.geometry.specs.EmBox.{em, inEmBox}
-use Rattle.geometry.specs.Plane.{holds}
 use Rattle.disks.specs.Procedure.{disk, circle, boundaryDisk, lowestTerms, norm}
 use Rattle.disks.proofs.Lifted.{Lifted}
 use Rattle.disks.proofs.Triple.{turn, turned, vanishing}
@@ -26,9 +25,9 @@ use Rattle.disks.proofs.Tests.{relativeDisk, relative-lowered, row-weight, row-
 use Rattle.disks.proofs.Bridge.{point-lowered, diameter-lowered, circle-lowered}
 use Rattle.disks.proofs.BoxLimits.{turned-weight}
 use Rattle.disks.proofs.Answer.{side, em-square, in-square}
-use Rattle.relative_disks.specs.declared.RelativeDisk.{RelativeDisk}
 use Rattle.relative_disks.proofs.RelativeLaws.{near-box}
-use Rattle.relative_disks.specs.Relative.{nothing, pointAbout, diameterAbout, bySign, circleAbout, coordinate, difference, arm, Near, Small, StandsFor, none, proper, row, Keeps}
+use Rattle.relative_disks.specs.Relative.{nothing, pointAbout, diameterAbout, bySign, circleAbout, coordinate, arm, Near, Small, StandsFor, none, proper}
+use Rattle.relative_disks.specs.Relative.{row, Keeps}
 
 lit-within : {B : ℕ} {z : ℤ} → T (leb (natAbs z) B) → Within B z
 lit-within t = record { within = leb→le _ _ t }
@@ -49,7 +48,13 @@ as-relative q e gx gy is at = is ∙ ap lowered at ∙ relative-lowered q e gx g
 pub keeps-point : (a : Point) → inEmBox a ≡ true → Keeps (pointAbout (a .x) (a .y)) (boundaryDisk (a ∷ []))
 unfolding boundaryDisk
 keeps-point a h = record {
-  small = record { e-small = lit-within tt; qx-small = near-box a h .x-near; qy-small = near-box a h .y-near; gx-small = lit-within tt; gy-small = lit-within tt };
+  small = record {
+    e-small = lit-within tt;
+    qx-small = near-box a h .x-near;
+    qy-small = near-box a h .y-near;
+    gx-small = lit-within tt;
+    gy-small = lit-within tt;
+  };
   stands = proper (record { lt = tt }) (ap disk (as-relative a (pos 1) (pos 0) (pos 0) (point-lowered a) (point-relative a)));
 }
 

@@ -6,7 +6,7 @@
 --   wide-near             : a widened coordinate of a near point, as the machine reads it back
 --   near-box              : a point of the em box is near
 --   outside-kept          : a kept disk has a point of the em box outside where the text's disk has
-use mathlib.Core.Path.{_≡_, refl, sym, _∙_, ap, ap₂}
+use mathlib.Core.Path.{_≡_, sym, _∙_, ap, ap₂}
 use mathlib.Core.Bool.{Bool, true, false, not}
 use mathlib.Core.List.{[], _∷_}
 use lib.IntN.{ℤ, pos, negsuc, _+ℤ_, _-ℤ_, _*ℤ_}
@@ -18,16 +18,15 @@ use Rattle.integers.specs.Bounds.{Within, leaf-back}
 use Rattle.integers.specs.Order.{positive, le, nn, _⊞_, _⊠_}
 use Rattle.integers.specs.Ring.{ring, poly}
 use Rattle.geometry.specs.declared.Point.{Point}
-use Rattle.geometry.specs.declared.Disk.{Disk}
 use Rattle.geometry.specs.EmBox.{em, inEmBox}
-use Rattle.geometry.specs.Plane.{holds}
 use Rattle.geometry.proofs.EmBox.{inside, point-size}
-use Rattle.disks.specs.Procedure.{Cover, empty, disk, outside, norm}
+use Rattle.disks.specs.Procedure.{Cover, disk, outside, norm}
 use Rattle.disks.proofs.Lifted.{value}
 use Rattle.disks.proofs.Relative.{relative}
-use Rattle.disks.proofs.Tests.{relativeDisk, outside-relative}
+use Rattle.disks.proofs.Tests.{outside-relative}
 use Rattle.relative_disks.specs.declared.RelativeDisk.{RelativeDisk}
-use Rattle.relative_disks.specs.Relative.{beyond, isOutside, nothing, bySign, circleAbout, coordinate, Near, inLowestTerms, StandsFor, none, proper, row, Keeps}
+use Rattle.relative_disks.specs.Relative.{beyond, isOutside, nothing, bySign, circleAbout, coordinate, Near, inLowestTerms, StandsFor, none, proper}
+use Rattle.relative_disks.specs.Relative.{row, Keeps}
 
 -- ---- equal numbers
 

@@ -6,7 +6,6 @@
 --   kept-answer               : the disk that is kept at the end is the answer
 --   ran-whole                 : the promise `Ran`, of a whole list with no point fixed, is `Whole`
 use mathlib.Core.Path.{_≡_, refl, sym, ap, subst, _∙_}
-use mathlib.Core.Logic.{_⊎_, inl, inr}
 use mathlib.Core.Bool.{true}
 use mathlib.Core.List.{List, [], _∷_, append-nil}
 use Prim.Native.Nat.{ℕ, suc, _*_, _≤_, _<_}
@@ -22,7 +21,6 @@ use Rattle.integers.specs.Order.{pos-le, le-pos, ≤-of-<, nonneg, le, eq, sq, 
 use Rattle.integers.specs.Laws.{+-comm}
 use Rattle.integers.specs.Ring.{poly}
 use Rattle.geometry.specs.declared.Point.{Point}
-use Rattle.geometry.specs.declared.Disk.{Disk}
 use Rattle.geometry.specs.EmBox.{em, largest, inEmBox, allInEmBox}
 use Rattle.geometry.specs.Points.{points, flat}
 use Rattle.geometry.proofs.EmBox.{box-members}
@@ -100,8 +98,10 @@ module _ (p : Point) (P : List Point) (box : Boxed (p ∷ P)) (d : RelativeDisk)
   number-few a b r = record {
     within = root-few (natAbs a) (largest em * em .scale)
         (le-pos (subst (λ (z : ℤ). z ≤ℤ pos ((largest em * em .scale) * (largest em * em .scale))) (square-abs a)
-        (square-few a b (d .e) (pos (kept-written .g)) (pos (inLowestTerms d .e)) (pos (inLowestTerms d .s)) (pos (em .square)) (pos (em .scale)) (pos (largest em))
-        r (pos-le (kept-limits .s-most)) (kept-written .e-is) (≤-of-< (ended .positive-e)) (within-high (keeps .small .e-small)) (nn (em .square)) (record { le = tt }))));
+        (square-few a b (d .e) (pos (kept-written .g)) (pos (inLowestTerms d .e)) (pos (inLowestTerms d .s)) (pos (em .square)) (pos (em .scale))
+        (pos (largest em))
+        r (pos-le (kept-limits .s-most)) (kept-written .e-is) (≤-of-< (ended .positive-e)) (within-high (keeps .small .e-small)) (nn (em .square))
+        (record { le = tt }))));
   }
 
   answer-numbers : AnswerNumbers (d .e) (d .qx) (d .qy) (d .gx) (d .gy)

@@ -108,7 +108,8 @@ returns-2 c =
     let v = c .before .before .before .before .before .fixed .given in
     let b = c .before .before .before .before .before .before .before .pre in
     let n = near (v .1) b (v .0 .0) (List·Memᴰ·head refl) in
-    rw (v .1, wide-near (n .x-near) (c .before .before .wide .ensures), wide-near (n .y-near) (c .wide2 .ensures)) (keeps-point (v .0 .0) (boxed (v .1) b (v .0 .0) (List·Memᴰ·head refl)))
+    rw (v .1, wide-near (n .x-near) (c .before .before .wide .ensures), wide-near (n .y-near) (c .wide2 .ensures))
+    (keeps-point (v .0 .0) (boxed (v .1) b (v .0 .0) (List·Memᴰ·head refl)))
 
 returns-3 : tie.Need-returns-3
 returns-3 c =

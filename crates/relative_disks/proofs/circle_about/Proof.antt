@@ -1,6 +1,6 @@
 -- `relative_disks::circle_about` meets its contract: no step overflows, so the machine's numbers are those of `circleAbout`.
 use mathlib.Core.Path.{_≡_, refl, sym, _∙_}
-use mathlib.Core.Bool.{Bool, true, false}
+use mathlib.Core.Bool.{true, false}
 use lib.IntN.{ℤ, pos, _-ℤ_, _*ℤ_}
 use lib.Signed.{ltZ}
 use Rattle.integers.specs.Bounds.{machine, t-lt, fits, reads-as, tests-as}
