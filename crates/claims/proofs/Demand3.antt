@@ -22,13 +22,9 @@ use Rattle.geometry.proofs.EmBox.{members-box}
 use Rattle.geometry.proofs.PointLists.{length-flat, points-of-flat}
 use Rattle.point_lists.specs.Sets.{Same}
 use Rattle.disks.specs.Smallest.{Smallest}
-use Rattle.disks.specs.Procedure.{Cover, disk, State, mtf, diskIn, diskOf, testsOf, orderOf}
+use Rattle.disks.specs.Procedure.{disk, mtf, diskOf, testsOf, orderOf}
 use Rattle.disks.specs.Support.{firstSupport}
-use Rattle.disks.proofs.LiftedProcedure as L
-use Rattle.disks.proofs.Bridge.{cover-disk, mtf-image}
-use Rattle.disks.proofs.Correct.{mtf-strong}
-use Rattle.disks.proofs.LowestTerms.{lowered}
-use Rattle.disks.proofs.Welzl.{smallest, disk-same, tests-most, order-permuted}
+use Rattle.disks.proofs.Welzl.{mtf-ends, smallest, disk-same, tests-most, order-permuted}
 use Rattle.disks.proofs.First.{first-support-same}
 use Rattle.description.specs.Description as description
 use Rattle.description.specs.Description.{loadOf, named}
@@ -52,10 +48,7 @@ use Rattle.claims.proofs.Demand2.{engine-right}
 
 ends-on : (P : List Point) → (P ≡ [] → ⊥) → mtf [] P .cover ≡ disk (diskOf P)
 ends-on [] some = absurd (some refl)
-ends-on (p ∷ P) some = is ∙ ap (λ (c : Cover). disk (diskIn c)) (sym is)
-  where
-    is : mtf [] (p ∷ P) .cover ≡ disk (lowered (L.mtf (p ∷ P) .disk))
-    is = ap (λ (s : State). s .cover) (mtf-image (p ∷ P)) ∙ cover-disk (L.mtf (p ∷ P) .disk) (mtf-strong p P .feasible .proper)
+ends-on (p ∷ P) some = mtf-ends p P
 
 few : (P : List Point) → testsOf P ≤ (length P * length P * length P + 5 * length P) / 6
 few P = omega (arith, tests-most P)

@@ -5,23 +5,22 @@
 --   pair-own, blunt   : the disk over b, c is strongly minimal for b and c, and so for a too where the angle at a is not acute
 --   kind              : a strongly minimal disk of three points is of one of the two kinds
 --   acute-strong      : three boundary points with acute angles have the disk as their own
---   around-acute      : three arms around the centre make acute angles
 use mathlib.Core.Path.{_≡_, refl, sym, _∙_, ap, subst}
 use mathlib.Core.Logic.{_⊎_, inl, inr}
 use mathlib.Core.List.{[], _∷_, List·Memᴰ·head, List·Memᴰ·tail, List·Permᴰ, List·Permᴰ·cons, List·Permᴰ·swap, List·Permᴰ·trans}
-use lib.IntN.{ℤ, pos, negsuc, negℤ, _+ℤ_, _-ℤ_, _*ℤ_}
+use lib.IntN.{ℤ, pos, negℤ, _+ℤ_, _-ℤ_, _*ℤ_}
 use lib.Signed.{_≤ℤ_, _<ℤ_}
 use Rattle.integers.proofs.Ring.{ring, poly, linear, eqn, _&_}
-use Rattle.integers.proofs.Order.{≤-of-eq, ≤-of-<, ≤-or-<, nonneg, positive, clash, le, lt, eq, sq, nn, _⊞_, _⊠_, <-≤-clash, *-pos, Compared, less, same, more, compared, sum-squares-zero}
+use Rattle.integers.proofs.Order.{≤-of-eq, ≤-of-<, ≤-or-<, nonneg, clash, le, lt, eq, sq, nn, _⊞_, _⊠_, <-≤-clash, *-pos, Compared, less, same, more, compared, sum-squares-zero}
 use Rattle.geometry.specs.declared.Point.{Point}
 use Rattle.point_lists.proofs.Sets.{none-of, also}
 use Rattle.disks.proofs.Lifted.{Lifted, value, squaredRadius}
 use Rattle.disks.proofs.Minimal.{StronglyMinimal, strong-same, held}
-use Rattle.disks.proofs.Base.{Multiple, pairDisk, pair-first, pair-second, pair-gap, positive-two}
+use Rattle.disks.proofs.Base.{Multiple, pairForm, pair-first, pair-second, pair-gap, positive-two}
 use Rattle.disks.proofs.Lists.{perm-same}
 use Rattle.disks.proofs.Unique.{strong-unique, leave-out, square-positive}
 use Rattle.disks.proofs.Arms.{dot, cross, flip}
-use Rattle.disks.proofs.Weights.{arm, boundary-length, three-strong}
+use Rattle.disks.proofs.AboutCentre.{arm, boundary-length, three-strong}
 
 abbrev pub angle : Point → Point → Point → ℤ
 angle a b c = (b .x -ℤ a .x) *ℤ (c .x -ℤ a .x) +ℤ (b .y -ℤ a .y) *ℤ (c .y -ℤ a .y)
@@ -31,25 +30,25 @@ angle a b c = (b .x -ℤ a .x) *ℤ (c .x -ℤ a .x) +ℤ (b .y -ℤ a .y) *ℤ 
 minus-twice : (v w : ℤ) → v ≤ℤ pos 0 → w ≤ℤ pos 0 → pos 0 ≤ℤ negℤ (pos 2 *ℤ v +ℤ pos 2 *ℤ w)
 minus-twice v w h k = nonneg (v ∷ w ∷ []) (nn 2 ⊠ le h ⊞ nn 2 ⊠ le k) (search poly depth 30) tt
 
-pub pair-own : (b c : Point) → StronglyMinimal (b ∷ c ∷ []) [] (pairDisk b c)
+pub pair-own : (b c : Point) → StronglyMinimal (b ∷ c ∷ []) [] (pairForm b c)
 pair-own b c = record {
   feasible = record {
     proper = positive-two;
     holds = also Held (≤-of-eq (pair-first b c))
         (also Held (≤-of-eq (pair-second b c)) (none-of Held));
-    on-boundary = none-of (λ p. value (pairDisk b c) p ≡ pos 0);
+    on-boundary = none-of (λ p. value (pairForm b c) p ≡ pos 0);
   };
   least = λ G f. subst (λ (z : ℤ). pos 0 ≤ℤ z) (sym (pair-gap b c G))
       (minus-twice (value G b) (value G c) (f .holds b (List·Memᴰ·head refl)) (f .holds c (List·Memᴰ·tail (List·Memᴰ·head refl))));
 }
   where
     Held : Point → Type 0
-    Held p = value (pairDisk b c) p ≤ℤ pos 0
+    Held p = value (pairForm b c) p ≤ℤ pos 0
 
-pair-angle : (a b c : Point) → value (pairDisk b c) a ≡ pos 2 *ℤ angle a b c
+pair-angle : (a b c : Point) → value (pairForm b c) a ≡ pos 2 *ℤ angle a b c
 pair-angle a b c = ring (a .x ∷ a .y ∷ b .x ∷ b .y ∷ c .x ∷ c .y ∷ []) (search poly depth 30) tt
 
-pub blunt : (a b c : Point) → angle a b c ≤ℤ pos 0 → StronglyMinimal (a ∷ b ∷ c ∷ []) [] (pairDisk b c)
+pub blunt : (a b c : Point) → angle a b c ≤ℤ pos 0 → StronglyMinimal (a ∷ b ∷ c ∷ []) [] (pairForm b c)
 blunt a b c h = held (pair-own b c) (subst (λ (z : ℤ). z ≤ℤ pos 0) (sym (pair-angle a b c)) (twice (angle a b c) h))
   where
     twice : (d : ℤ) → d ≤ℤ pos 0 → (pos 2 *ℤ d) ≤ℤ pos 0
@@ -58,9 +57,9 @@ blunt a b c h = held (pair-own b c) (subst (λ (z : ℤ). z ≤ℤ pos 0) (sym (
 -- ---- a strongly minimal disk of three points
 
 pub data Kind (a b c : Point) (F : Lifted) : Type 0 where
-  side-bc : Multiple F (pairDisk b c) → Kind a b c F
-  side-ac : Multiple F (pairDisk a c) → Kind a b c F
-  side-ab : Multiple F (pairDisk a b) → Kind a b c F
+  side-bc : Multiple F (pairForm b c) → Kind a b c F
+  side-ac : Multiple F (pairForm a c) → Kind a b c F
+  side-ab : Multiple F (pairForm a b) → Kind a b c F
   acute : value F a ≡ pos 0 → value F b ≡ pos 0 → value F c ≡ pos 0 → pos 0 <ℤ angle a b c → pos 0 <ℤ angle b a c → pos 0 <ℤ angle c a b
       → Kind a b c F
 
@@ -137,14 +136,6 @@ sign-against w x n d e hn hd hw = go (≤-or-< (pos 0) x)
 sign-none : {X : Type 0} (w x n d : ℤ) → (pos 2 *ℤ w) *ℤ x ≡ n *ℤ d → pos 0 <ℤ n → pos 0 <ℤ d → pos 0 ≡ w → X
 sign-none w x n d e hn hd z = clash (w ∷ x ∷ n ∷ d ∷ []) (lt hn ⊠ lt hd ⊞ lt hn ⊞ lt hd ⊞ eq (pos 1) e ⊞ eq (pos 2 *ℤ x) z) (search poly depth 30) tt
 
-angle-from : (e w x n d k : ℤ) → (pos 2 *ℤ w) *ℤ x ≡ n *ℤ d → d ≡ (e *ℤ e) *ℤ k → pos 0 <ℤ w → pos 0 <ℤ x → pos 0 ≤ℤ n → pos 0 <ℤ k
-angle-from e w x n d k h q hw hx hn = go (≤-or-< k (pos 0))
-  where
-    go : (k ≤ℤ pos 0) ⊎ (pos 0 <ℤ k) → pos 0 <ℤ k
-    go (inr l) = l
-    go (inl l) = clash (e ∷ w ∷ x ∷ n ∷ d ∷ k ∷ []) (nn 2 ⊠ (lt hw ⊠ lt hx ⊞ lt hw ⊞ lt hx) ⊞ nn 1 ⊞ hn ⊠ (sq e ⊠ le l) ⊞ eq (negsuc 0) h
-        ⊞ eq (negℤ n) q) (search poly depth 30) tt
-
 rotated : (a b c : ℤ) → a +ℤ b +ℤ c ≡ b +ℤ c +ℤ a
 rotated a b c = ring (a ∷ b ∷ c ∷ []) (search poly depth 30) tt
 
@@ -207,21 +198,3 @@ module _ (F : Lifted) (proper : pos 0 <ℤ F .e) (a b c : Point) (ha : value F a
             (flip C A (sign-against area (cross C A) (side C A) (angle B C A) at-b side-b arm-b h))
             (flip B C (sign-against area (cross B C) (side B C) (angle A B C) at-a side-a arm-a h))
             (flip A B (sign-against area (cross A B) (side A B) (angle C A B) at-c side-c arm-c h)))
-
-  -- the centre strictly inside the triangle: all angles are acute
-  pub around-acute : pos 0 <ℤ cross A B → pos 0 <ℤ cross B C → pos 0 <ℤ cross C A
-      → (pos 0 <ℤ angle a b c) × (pos 0 <ℤ angle b c a) × (pos 0 <ℤ angle c a b)
-  around-acute wc wa wb = (
-    angle-from (F .e) area (cross B C) (side B C) (angle A B C) (angle a b c) at-a (arm-angle F a b c) whole wa
-        (sq (C .x -ℤ B .x) ⊞ sq (C .y -ℤ B .y)),
-    angle-from (F .e) area (cross C A) (side C A) (angle B C A) (angle b c a) at-b (arm-angle F b c a) whole wb
-        (sq (A .x -ℤ C .x) ⊞ sq (A .y -ℤ C .y)),
-    angle-from (F .e) area (cross A B) (side A B) (angle C A B) (angle c a b) at-c (arm-angle F c a b) whole wc
-        (sq (B .x -ℤ A .x) ⊞ sq (B .y -ℤ A .y)),
-  )
-    where
-      sum-of-three : (u v w : ℤ) → pos 0 <ℤ u → pos 0 <ℤ v → pos 0 <ℤ w → pos 0 <ℤ (u +ℤ v +ℤ w)
-      sum-of-three u v w hu hv hw = positive (u ∷ v ∷ w ∷ []) (lt hu ⊞ lt hv ⊞ lt hw ⊞ nn 2) (search poly depth 30) tt
-
-      whole : pos 0 <ℤ area
-      whole = sum-of-three (cross A B) (cross B C) (cross C A) wc wa wb

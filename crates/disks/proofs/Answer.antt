@@ -23,10 +23,10 @@ use Rattle.point_lists.specs.Sets.{In}
 use Rattle.point_lists.proofs.Sets.{none-of}
 use Rattle.disks.specs.Procedure.{diskOf}
 use Rattle.disks.proofs.Lifted.{Lifted, squaredRadius}
-use Rattle.disks.proofs.Limits.{Box, BoxLimits, box-limits}
+use Rattle.disks.proofs.BoxLimits.{Box, BoxLimits, box-limits}
 use Rattle.disks.proofs.Base.{positive-two}
-use Rattle.disks.proofs.Weight.{run-weight}
-use Rattle.disks.proofs.LiftedProcedure.{mtf}
+use Rattle.disks.proofs.RunWeight.{run-weight}
+use Rattle.disks.proofs.LiftedProcedure.{liftedMtf}
 use Rattle.disks.proofs.Correct.{mtf-strong}
 use Rattle.disks.proofs.LowestTerms.{lowered, Written, square-factor}
 use Rattle.disks.proofs.StrongSmallest.{some-positive}
@@ -80,7 +80,7 @@ module _ (l : Limits) (sq : Square l) where
 
   module _ (p : Point) (P : List Point) (all-inside : (q : Point) → In q (p ∷ P) → T (inBox l q)) where
     abbrev pub F : Lifted
-    F = mtf (p ∷ P) .disk
+    F = liftedMtf (p ∷ P) .disk
 
     boxed : (q : Point) → In q (p ∷ P) → InSquare q
     boxed q i = in-square q (all-inside q i)

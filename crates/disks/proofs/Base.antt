@@ -1,6 +1,6 @@
 -- The smallest disk with one or two given points on its boundary, and multiples of a form.
 --
---   pointDisk, pairDisk    == the point itself; the disk over a diameter
+--   pointForm, pairForm    == the point itself; the disk over a diameter
 --   Multiple F G           == G is F times a factor: the same disk
 --   point-strong, pair-strong        : the two disks are strongly minimal, with no further points
 --   multiple-value, holds-by         : a multiple of a disk holds the same points
@@ -19,39 +19,39 @@ use Rattle.disks.proofs.Minimal.{StronglyMinimal}
 
 -- ---- one point
 
-abbrev pub pointDisk : Point → Lifted
-pointDisk q = record { e = pos 1; cx = q .x; cy = q .y; k = q .x *ℤ q .x +ℤ q .y *ℤ q .y }
+abbrev pub pointForm : Point → Lifted
+pointForm q = record { e = pos 1; cx = q .x; cy = q .y; k = q .x *ℤ q .x +ℤ q .y *ℤ q .y }
 
-pub point-value : (q : Point) → value (pointDisk q) q ≡ pos 0
+pub point-value : (q : Point) → value (pointForm q) q ≡ pos 0
 point-value q = ring (q .x ∷ q .y ∷ []) (search poly depth 30) tt
 
-pub point-gap : (q : Point) (G : Lifted) → gap (pointDisk q) G ≡ negℤ (value G q)
+pub point-gap : (q : Point) (G : Lifted) → gap (pointForm q) G ≡ negℤ (value G q)
 point-gap q G = ring (q .x ∷ q .y ∷ G .e ∷ G .cx ∷ G .cy ∷ G .k ∷ []) (search poly depth 30) tt
 
 pub positive-one : pos 0 <ℤ pos 1
 positive-one = positive [] (nn 0) (search poly depth 30) tt
 
-pub point-strong : (q : Point) → StronglyMinimal [] (q ∷ []) (pointDisk q)
+pub point-strong : (q : Point) → StronglyMinimal [] (q ∷ []) (pointForm q)
 point-strong q = record {
-  feasible = record { proper = positive-one; holds = none-of (λ p. value (pointDisk q) p ≤ℤ pos 0); on-boundary = also On (point-value q) (none-of On) };
+  feasible = record { proper = positive-one; holds = none-of (λ p. value (pointForm q) p ≤ℤ pos 0); on-boundary = also On (point-value q) (none-of On) };
   least = λ G f. ≤-of-eq (sym (point-gap q G ∙ ap negℤ (f .on-boundary q (List·Memᴰ·head refl))));
 }
   where
     On : Point → Type 0
-    On p = value (pointDisk q) p ≡ pos 0
+    On p = value (pointForm q) p ≡ pos 0
 
 -- ---- two points
 
-abbrev pub pairDisk : Point → Point → Lifted
-pairDisk q r = record { e = pos 2; cx = q .x +ℤ r .x; cy = q .y +ℤ r .y; k = pos 2 *ℤ (q .x *ℤ r .x +ℤ q .y *ℤ r .y) }
+abbrev pub pairForm : Point → Point → Lifted
+pairForm q r = record { e = pos 2; cx = q .x +ℤ r .x; cy = q .y +ℤ r .y; k = pos 2 *ℤ (q .x *ℤ r .x +ℤ q .y *ℤ r .y) }
 
-pub pair-first : (q r : Point) → value (pairDisk q r) q ≡ pos 0
+pub pair-first : (q r : Point) → value (pairForm q r) q ≡ pos 0
 pair-first q r = ring (q .x ∷ q .y ∷ r .x ∷ r .y ∷ []) (search poly depth 30) tt
 
-pub pair-second : (q r : Point) → value (pairDisk q r) r ≡ pos 0
+pub pair-second : (q r : Point) → value (pairForm q r) r ≡ pos 0
 pair-second q r = ring (q .x ∷ q .y ∷ r .x ∷ r .y ∷ []) (search poly depth 30) tt
 
-pub pair-gap : (q r : Point) (G : Lifted) → gap (pairDisk q r) G ≡ negℤ (pos 2 *ℤ value G q +ℤ pos 2 *ℤ value G r)
+pub pair-gap : (q r : Point) (G : Lifted) → gap (pairForm q r) G ≡ negℤ (pos 2 *ℤ value G q +ℤ pos 2 *ℤ value G r)
 pair-gap q r G = ring (q .x ∷ q .y ∷ r .x ∷ r .y ∷ G .e ∷ G .cx ∷ G .cy ∷ G .k ∷ []) (search poly depth 30) tt
 
 pub positive-two : pos 0 <ℤ pos 2
@@ -60,19 +60,20 @@ positive-two = positive [] (nn 1) (search poly depth 30) tt
 twice-none : {v w : ℤ} → v ≡ pos 0 → w ≡ pos 0 → negℤ (pos 2 *ℤ v +ℤ pos 2 *ℤ w) ≡ pos 0
 twice-none p q = ap₂ (λ (v w : ℤ). negℤ (pos 2 *ℤ v +ℤ pos 2 *ℤ w)) p q
 
-pub pair-strong : (q r : Point) → StronglyMinimal [] (q ∷ r ∷ []) (pairDisk q r)
+pub pair-strong : (q r : Point) → StronglyMinimal [] (q ∷ r ∷ []) (pairForm q r)
 pair-strong q r = record {
   feasible = record {
     proper = positive-two;
-    holds = none-of (λ p. value (pairDisk q r) p ≤ℤ pos 0);
+    holds = none-of (λ p. value (pairForm q r) p ≤ℤ pos 0);
     on-boundary = also On (pair-first q r)
         (also On (pair-second q r) (none-of On));
   };
-  least = λ G f. ≤-of-eq (sym (pair-gap q r G ∙ twice-none (f .on-boundary q (List·Memᴰ·head refl)) (f .on-boundary r (List·Memᴰ·tail (List·Memᴰ·head refl)))));
+  least = λ G f. ≤-of-eq (sym (pair-gap q r G ∙ twice-none (f .on-boundary q (List·Memᴰ·head refl))
+      (f .on-boundary r (List·Memᴰ·tail (List·Memᴰ·head refl)))));
 }
   where
     On : Point → Type 0
-    On p = value (pairDisk q r) p ≡ pos 0
+    On p = value (pairForm q r) p ≡ pos 0
 
 -- ---- a multiple
 

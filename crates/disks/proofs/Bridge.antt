@@ -1,12 +1,14 @@
 -- The procedure of specs/ and the lifted procedure agree.
 --
---   coverOf F, image s     == a lifted disk as a cover (E = 0 is the empty disk); a lifted state as a state
+--   coverOf F              == a lifted disk as a cover (E = 0 is the empty disk)
+--   Agree s t              == the state s has the cover and the list of the lifted state t
 --   outside-cover          : the two tests agree
---   boundary-cover         : the two disks with one, two or three points on the boundary agree
---   run-image              : the two runs agree, wherever some disk is feasible and R has at most three points, all different
---   mtf-image, diskOf-lowered, testsOf-count, orderOf-left : so from no point fixed
-use mathlib.Core.Path.{_≡_, refl, sym, _∙_, ap, subst}
-use mathlib.Core.Bool.{Bool, true, false, not}
+--   point-lowered, diameter-lowered, circle-lowered : the disks of one, two and three points are the lifted ones in lowest terms
+--   boundary-cover, full-cover : the two disks with R on the boundary agree
+--   run-agree              : the two runs agree, wherever some disk is feasible and R has at most three points, all different
+--   mtf-cover, diskOf-lowered : so from no point fixed
+use mathlib.Core.Path.{_≡_, refl, sym, _∙_, ap, subst, subst₂}
+use mathlib.Core.Bool.{Bool, true, false}
 use mathlib.Core.List.{List, [], _∷_, _++_, List·Memᴰ·head, List·Permᴰ·nil}
 use Prim.Native.Nat.{ℕ, zero, suc, _+_, _*_, _/_, _≤_, zero-le}
 use borrow.Author.Tests.{le-ltb}
@@ -15,25 +17,24 @@ use native.Mathlib.Omega.{arith}
 use lib.Dec.{T}
 use lib.IntN.{ℤ, pos, negsuc, negℤ, natAbs, _+ℤ_, _-ℤ_, _*ℤ_}
 use lib.ListN.{length}
-use lib.Signed.{_<ℤ_, ltZ, leZ, quotZ}
-use Rattle.integers.proofs.Tests.{below, not-below}
-use Rattle.integers.proofs.Ring.{ring, poly}
-use Rattle.integers.proofs.Order.{positive, lt, eq, nn, _⊞_, _⊠_, <-cancel}
+use lib.Signed.{_<ℤ_, ltZ, quotZ}
 use Rattle.divisors.specs.Divisor.{gcd, steps}
+use Rattle.integers.proofs.Ring.{ring, poly}
+use Rattle.integers.proofs.Order.{positive, lt, nn, _⊞_, _⊠_, <-cancel}
 use Rattle.geometry.specs.declared.Point.{Point}
 use Rattle.geometry.specs.declared.Disk.{Disk}
-use Rattle.geometry.specs.Plane.{distance, holds}
-use Rattle.point_lists.specs.Sets.{Different}
-use Rattle.disks.specs.Procedure.{Cover, empty, disk, outside, lowestTerms, pointDisk, diameterDisk, turnedBy, circle, boundaryDisk, State, tested, step, through, start, run, norm, diskIn, diskOf, testsOf, orderOf}
+use Rattle.disks.specs.Procedure.{Cover, empty, disk, outside, lowestTerms, pointDisk, diameterDisk, turnedBy, circle, boundaryDisk, State, tested, step, through, start, run, norm, diskIn, diskOf}
 use Rattle.disks.proofs.Lifted.{Lifted, value, squaredRadius}
 use Rattle.disks.proofs.Minimal.{Feasible, StronglyMinimal}
-use Rattle.disks.proofs.Base as B
+use Rattle.disks.proofs.Base.{pointForm, pairForm}
 use Rattle.disks.proofs.Triple as C
-use Rattle.disks.proofs.LiftedProcedure as L
-use Rattle.disks.proofs.Correct.{Found, found, nothing, base-found, full-found, Ran, turn-ran, inner-feasible, inner-different, feasible-front, next, run-ran, large-feasible, mtf-strong}
-use Rattle.disks.proofs.Support.{Supported, one, two, three, support}
-use Rattle.disks.proofs.Tests.{same-ltZ, outside-none}
-use Rattle.disks.proofs.LowestTerms.{lowered, Written, lowered-written, written-value, square-factor}
+use Rattle.point_lists.specs.Sets.{Different}
+use Rattle.disks.proofs.Triple.{turn, turned, vanishing, tripleForm}
+use Rattle.disks.proofs.LiftedProcedure.{LiftedState, boundaryForm, liftedOutside, liftedTested, turn-at, one-by-one, liftedStart, runWith, liftedMtf}
+use Rattle.disks.proofs.Correct.{MinimalSoFar, found, none-yet, base-found, full-found, RunCorrect, turn-ran, inner-feasible, inner-different, feasible-front, next, run-ran, large-feasible, mtf-strong}
+use Rattle.disks.proofs.SupportPoints.{Supported, one, two, three, support}
+use Rattle.disks.proofs.Tests.{same-ltZ, outside-none, outside-written}
+use Rattle.disks.proofs.LowestTerms.{lowered, Written, lowered-written}
 
 -- ---- the cover
 
@@ -44,9 +45,6 @@ coverBy (negsuc n) d = disk d
 
 abbrev pub coverOf : Lifted → Cover
 coverOf F = coverBy (F .e) (lowered F)
-
-abbrev pub image : L.State → State
-image s = record { cover = coverOf (s .disk); tests = s .count; left = s .left }
 
 cover-by : (z : ℤ) (d : Disk) → pos 0 <ℤ z → coverBy z d ≡ disk d
 unfolding coverBy
@@ -73,33 +71,11 @@ strong-written {F} m = let b = boundary-point m in lowered-written F (m .feasibl
 
 -- ---- the tests agree
 
-not-leZ : (a b : ℤ) → not (leZ a b) ≡ ltZ b a
-not-leZ a b = go (ltZ b a) refl
-  where
-    go : (t : Bool) → ltZ b a ≡ t → not (leZ a b) ≡ t
-    go true e = ap not (below b a e)
-    go false e = ap not (not-below b a e)
-
-more-by : (E v n d s : ℤ) → E *ℤ v ≡ n *ℤ (d -ℤ s) → pos 0 <ℤ E → pos 0 <ℤ n → pos 0 <ℤ v → s <ℤ d
-more-by E v n d s q hE hn hv = <-cancel hn (positive (E ∷ v ∷ n ∷ d ∷ s ∷ []) (lt hE ⊠ lt hv ⊞ lt hE ⊞ lt hv ⊞ eq (negsuc 0) q)
-    (search poly depth 30) tt)
-
-positive-by : (E v n d s : ℤ) → E *ℤ v ≡ n *ℤ (d -ℤ s) → pos 0 <ℤ E → pos 0 <ℤ n → s <ℤ d → pos 0 <ℤ v
-positive-by E v n d s q hE hn h = <-cancel hE
-    (positive (E ∷ v ∷ n ∷ d ∷ s ∷ []) (lt hn ⊠ lt h ⊞ lt hn ⊞ lt h ⊞ eq (pos 1) q) (search poly depth 30) tt)
-
-outside-written : {F : Lifted} {d : Disk} → pos 0 <ℤ F .e → Written F d → (p : Point) → outside (disk d) p ≡ L.outside F p
-unfolding outside holds L.outside
-outside-written {F} {d} he w p = not-leZ (distance d p) (pos (d .s))
-    ∙ same-ltZ (pos (d .s)) (distance d p) (pos 0) (value F p)
-    (positive-by (F .e) (value F p) (pos (w .g) *ℤ pos (w .g)) (distance d p) (pos (d .s)) (written-value w p) he (square-factor w))
-    (more-by (F .e) (value F p) (pos (w .g) *ℤ pos (w .g)) (distance d p) (pos (d .s)) (written-value w p) he (square-factor w))
-
-pub outside-cover : {P R : List Point} {F : Lifted} → Found P R F → (p : Point) → outside (coverOf F) p ≡ L.outside F p
+pub outside-cover : {P R : List Point} {F : Lifted} → MinimalSoFar P R F → (p : Point) → outside (coverOf F) p ≡ liftedOutside F p
 unfolding outside coverBy
 outside-cover {F} (found m) p = ap (λ (c : Cover). outside c p) (cover-disk F (m .feasible .proper)) ∙ outside-written (m .feasible .proper)
     (strong-written m) p
-outside-cover nothing p = sym (outside-none p)
+outside-cover none-yet p = sym (outside-none p)
 
 -- ---- the disks with R on the boundary agree
 
@@ -117,10 +93,10 @@ one-lowest a = ap (λ (g : ℕ). record { x = quotZ (a .x) (pos g); y = quotZ (a
     (gcd-one (gcd (natAbs (a .x)) (natAbs (a .y))))
     ∙ (λ i. record { x = quotient-one (a .x) i; y = quotient-one (a .y) i; e = 1; s = 0 })
 
-point-radius : (a : Point) → squaredRadius (B.pointDisk a) ≡ pos 0
+point-radius : (a : Point) → squaredRadius (pointForm a) ≡ pos 0
 point-radius a = ring (a .x ∷ a .y ∷ []) (search poly depth 30) tt
 
-pair-radius : (a b : Point) → squaredRadius (B.pairDisk a b) ≡ norm (b .x -ℤ a .x) (b .y -ℤ a .y)
+pair-radius : (a b : Point) → squaredRadius (pairForm a b) ≡ norm (b .x -ℤ a .x) (b .y -ℤ a .y)
 pair-radius a b = ring (a .x ∷ a .y ∷ b .x ∷ b .y ∷ []) (search poly depth 30) tt
 
 twice-negative : (w : ℤ) → ltZ (pos 2 *ℤ w) (pos 0) ≡ ltZ w (pos 0)
@@ -148,7 +124,7 @@ turnedAround a w gx gy = lowestTerms (a .x *ℤ pos (2 * natAbs w) +ℤ turnedBy
 around-radius : (a : Point) (w gx gy : ℤ) → norm gx gy ≡ squaredRadius (around a w gx gy)
 around-radius a w gx gy = ring (a .x ∷ a .y ∷ w ∷ gx ∷ gy ∷ []) (search poly depth 30) tt
 
-negated-radius : (a : Point) (w gx gy : ℤ) → norm (negℤ gx) (negℤ gy) ≡ squaredRadius (C.turned true (around a w gx gy))
+negated-radius : (a : Point) (w gx gy : ℤ) → norm (negℤ gx) (negℤ gy) ≡ squaredRadius (turned true (around a w gx gy))
 negated-radius a w gx gy = ring (a .x ∷ a .y ∷ w ∷ gx ∷ gy ∷ []) (search poly depth 30) tt
 
 negated-centre : (x m g : ℤ) → x *ℤ (pos 2 *ℤ m) +ℤ negℤ g ≡ negℤ (x *ℤ (pos 2 *ℤ negℤ m) +ℤ g)
@@ -160,58 +136,70 @@ negated-weight m = ring (m ∷ []) (search poly depth 30) tt
 not-negative : (n : ℕ) → ltZ (pos n) (pos 0) ≡ false
 not-negative n = le-ltb n 0 zero-le
 
-by-sign : (a : Point) (w gx gy : ℤ) → turnedAround a w gx gy ≡ lowered (C.turned (ltZ w (pos 0)) (around a w gx gy))
+by-sign : (a : Point) (w gx gy : ℤ) → turnedAround a w gx gy ≡ lowered (turned (ltZ w (pos 0)) (around a w gx gy))
 unfolding turnedBy
 by-sign a (pos n) gx gy = lowest-same refl refl refl (ap natAbs (around-radius a (pos n) gx gy))
-    ∙ ap (λ (t : Bool). lowered (C.turned t (around a (pos n) gx gy))) (sym (not-negative n))
+    ∙ ap (λ (t : Bool). lowered (turned t (around a (pos n) gx gy))) (sym (not-negative n))
 by-sign a (negsuc n) gx gy = lowest-same (negated-centre (a .x) (pos (suc n)) gx) (negated-centre (a .y) (pos (suc n)) gy)
     (ap natAbs (negated-weight (pos (suc n)))) (ap natAbs (negated-radius a (negsuc n) gx gy))
 
-circle-lowered : (a b c : Point) → circle a b c ≡ lowered (C.tripleDisk a b c)
+pub circle-lowered : (a b c : Point) → circle a b c ≡ lowered (tripleForm a b c)
 unfolding circle
-circle-lowered a b c = by-sign a (C.turn a b c) (C.gx a b c) (C.gy a b c) ∙ ap (λ (t : Bool). lowered (C.turned t (C.circle a b c)))
-    (sym (twice-negative (C.turn a b c)))
+circle-lowered a b c = by-sign a (turn a b c) (C.gx a b c) (C.gy a b c) ∙ ap (λ (t : Bool). lowered (turned t (vanishing a b c)))
+    (sym (twice-negative (turn a b c)))
+
+pub point-lowered : (a : Point) → pointDisk a ≡ lowered (pointForm a)
+point-lowered a = sym (lowest-same refl refl refl (ap natAbs (point-radius a)) ∙ one-lowest a)
+
+pub diameter-lowered : (a b : Point) → diameterDisk a b ≡ lowered (pairForm a b)
+unfolding diameterDisk
+diameter-lowered a b = lowest-same refl refl refl (ap natAbs (sym (pair-radius a b)))
 
 -- with room in R, whatever it is; R of three where the lifted disk is a disk
-pub boundary-cover : (R : List Point) → length R ≤ 2 → boundaryDisk R ≡ coverOf (L.boundaryForm R)
-unfolding boundaryDisk coverBy L.boundaryForm diameterDisk
+pub boundary-cover : (R : List Point) → length R ≤ 2 → boundaryDisk R ≡ coverOf (boundaryForm R)
+unfolding boundaryDisk coverBy boundaryForm
 boundary-cover [] h = refl
-boundary-cover (a ∷ []) h = ap disk (sym (lowest-same refl refl refl (ap natAbs (point-radius a)) ∙ one-lowest a))
-boundary-cover (a ∷ b ∷ []) h = ap disk (lowest-same refl refl refl (ap natAbs (sym (pair-radius a b))))
+boundary-cover (a ∷ []) h = ap disk (point-lowered a)
+boundary-cover (a ∷ b ∷ []) h = ap disk (diameter-lowered a b)
 boundary-cover (a ∷ b ∷ c ∷ R) h = absurd (omega arith)
 
-pub full-cover : (R : List Point) → length R ≡ 3 → pos 0 <ℤ L.boundaryForm R .e → boundaryDisk R ≡ coverOf (L.boundaryForm R)
-unfolding boundaryDisk L.boundaryForm
+pub full-cover : (R : List Point) → length R ≡ 3 → pos 0 <ℤ boundaryForm R .e → boundaryDisk R ≡ coverOf (boundaryForm R)
+unfolding boundaryDisk boundaryForm
 full-cover [] h k = absurd (omega arith)
 full-cover (a ∷ []) h k = absurd (omega arith)
 full-cover (a ∷ b ∷ []) h k = absurd (omega arith)
-full-cover (a ∷ b ∷ c ∷ []) h k = ap disk (circle-lowered a b c) ∙ sym (cover-disk (C.tripleDisk a b c) k)
+full-cover (a ∷ b ∷ c ∷ []) h k = ap disk (circle-lowered a b c) ∙ sym (cover-disk (tripleForm a b c) k)
 full-cover (a ∷ b ∷ c ∷ d ∷ R) h k = absurd (omega arith)
 
 -- ---- the runs agree
 
-abbrev Agree : ℕ → Type 0
-Agree k = (R P : List Point) (W : Lifted) → Feasible P R W → Different R → length R + k ≡ 3 → run k R P ≡ image (L.runWith k R P)
+pub record Agree (s : State) (t : LiftedState) : Type 0 where
+  pub cover-is : s .cover ≡ coverOf (t .disk)
+  pub left-is : s .left ≡ t .left
 
-module _ (k : ℕ) (R : List Point) (W : Lifted) (agree : Agree k) (size : length R + suc k ≡ 3) (d : Different R) where
-  step-image : (Q : List Point) (p : Point) (s : L.State) → Feasible (Q ++ (p ∷ [])) R W → Ran (suc k) R Q s
-      → step (run k) R (image s) p ≡ image (L.turn-at (L.runWith k) R s p)
-  unfolding step tested L.turn-at L.outside L.tested
-  step-image Q p s f r = ap (λ (b : Bool). tested b (image s) p (run k (p ∷ R) (s .left))) (outside-cover (r .disk-found) p)
-      ∙ go (ltZ (pos 0) (value (s .disk) p)) (λ t. agree (p ∷ R) (s .left) _ (inner-feasible k R Q p s W (run-ran k) size d f r (record { lt = t }))
-      (inner-different k R Q p s W (run-ran k) size d f r (record { lt = t })) (omega arith))
+abbrev RunsAgree : ℕ → Type 0
+RunsAgree k = (R P : List Point) (W : Lifted) → Feasible P R W → Different R → length R + k ≡ 3 → Agree (run k R P) (runWith k R P)
+
+module _ (k : ℕ) (R : List Point) (W : Lifted) (agree : RunsAgree k) (size : length R + suc k ≡ 3) (d : Different R) where
+  step-agree : (Q : List Point) (p : Point) (s : State) (t : LiftedState) → Feasible (Q ++ (p ∷ [])) R W → RunCorrect (suc k) R Q t → Agree s t
+      → Agree (step (run k) R s p) (turn-at (runWith k) R t p)
+  unfolding step tested turn-at liftedOutside liftedTested
+  step-agree Q p s t f r a = subst₂ (λ (b : Bool) (l : List Point). Agree (tested b s p (run k (p ∷ R) l)) (turn-at (runWith k) R t p))
+      (sym (ap (λ (c : Cover). outside c p) (a .cover-is) ∙ outside-cover (r .disk-found) p)) (sym (a .left-is))
+      (go (ltZ (pos 0) (value (t .disk) p)) (λ o. agree (p ∷ R) (t .left) _ (inner-feasible k R Q p t W (run-ran k) size d f r (record { lt = o }))
+      (inner-different k R Q p t W (run-ran k) size d f r (record { lt = o })) (omega arith)))
     where
-      go : (b : Bool) → (T b → run k (p ∷ R) (s .left) ≡ image (L.runWith k (p ∷ R) (s .left)))
-          → tested b (image s) p (run k (p ∷ R) (s .left)) ≡ image (L.tested b s p (L.runWith k (p ∷ R) (s .left)))
-      go true e = ap (λ (a : State). record { cover = a .cover; tests = s .count + 1 + a .tests; left = p ∷ a .left }) (e tt)
-      go false e = refl
+      go : (b : Bool) → (T b → Agree (run k (p ∷ R) (t .left)) (runWith k (p ∷ R) (t .left)))
+          → Agree (tested b s p (run k (p ∷ R) (t .left))) (liftedTested b t p (runWith k (p ∷ R) (t .left)))
+      go true e = record { cover-is = e tt .cover-is; left-is = ap {B = List Point} (λ l. p ∷ l) (e tt .left-is) }
+      go false e = record { cover-is = a .cover-is; left-is = ap (λ (l : List Point). l ++ (p ∷ [])) (a .left-is) }
 
-  through-image : (Q ps : List Point) (s : L.State) → Feasible (Q ++ ps) R W → Ran (suc k) R Q s
-      → through (step (run k) R) (image s) ps ≡ image (L.one-by-one (L.turn-at (L.runWith k) R) s ps)
-  unfolding through L.one-by-one
-  through-image Q [] s f r = refl
-  through-image Q (p ∷ ps) s f r = ap (λ (t : State). through (step (run k) R) t ps) (step-image Q p s next-feasible r)
-      ∙ through-image (Q ++ (p ∷ [])) ps (L.turn-at (L.runWith k) R s p) all-feasible (turn-ran k R Q p s W (run-ran k) size d next-feasible r)
+  through-agree : (Q ps : List Point) (s : State) (t : LiftedState) → Feasible (Q ++ ps) R W → RunCorrect (suc k) R Q t → Agree s t
+      → Agree (through (step (run k) R) s ps) (one-by-one (turn-at (runWith k) R) t ps)
+  unfolding through one-by-one
+  through-agree Q [] s t f r a = a
+  through-agree Q (p ∷ ps) s t f r a = through-agree (Q ++ (p ∷ [])) ps (step (run k) R s p) (turn-at (runWith k) R t p) all-feasible
+      (turn-ran k R Q p t W (run-ran k) size d next-feasible r) (step-agree Q p s t next-feasible r a)
     where
       all-feasible : Feasible ((Q ++ (p ∷ [])) ++ ps) R W
       all-feasible = subst (λ (P : List Point). Feasible P R W) (sym (next Q ps p)) f
@@ -219,26 +207,17 @@ module _ (k : ℕ) (R : List Point) (W : Lifted) (agree : Agree k) (size : lengt
       next-feasible : Feasible (Q ++ (p ∷ [])) R W
       next-feasible = feasible-front (Q ++ (p ∷ [])) ps all-feasible
 
-pub run-image : (k : ℕ) → Agree k
-unfolding run L.runWith
-run-image zero R P W f d size = ap (λ (c : Cover). record { cover = c; tests = 0; left = P })
-    (full-cover R (omega arith) (full-found R (omega arith) f d .feasible .proper))
-run-image (suc k) R P W f d size = ap (λ (c : Cover). through (step (run k) R) (record { cover = c; tests = 0; left = [] }) P)
-    (boundary-cover R (omega arith))
-    ∙ through-image k R W (run-image k) size d [] P (L.start R []) f
-    (record { disk-found = base-found R (omega arith); left-permuted = List·Permᴰ·nil; count-most = omega arith })
+pub run-agree : (k : ℕ) → RunsAgree k
+unfolding run runWith
+run-agree zero R P W f d size = record { cover-is = full-cover R (omega arith) (full-found R (omega arith) f d .feasible .proper); left-is = refl }
+run-agree (suc k) R P W f d size = through-agree k R W (run-agree k) size d [] P (start R []) (liftedStart R []) f
+    (record { disk-found = base-found R (omega arith); left-permuted = List·Permᴰ·nil })
+    (record { cover-is = boundary-cover R (omega arith); left-is = refl })
 
 -- ---- from no point fixed
 
-pub mtf-image : (P : List Point) → run 3 [] P ≡ image (L.mtf P)
-mtf-image P = run-image 3 [] P _ (large-feasible P) tt refl
+pub mtf-cover : (p : Point) (P : List Point) → run 3 [] (p ∷ P) .cover ≡ disk (lowered (liftedMtf (p ∷ P) .disk))
+mtf-cover p P = run-agree 3 [] (p ∷ P) _ (large-feasible (p ∷ P)) tt refl .cover-is ∙ cover-disk (liftedMtf (p ∷ P) .disk) (mtf-strong p P .feasible .proper)
 
-pub testsOf-count : (P : List Point) → testsOf P ≡ L.mtf P .count
-testsOf-count P = ap (λ (s : State). s .tests) (mtf-image P)
-
-pub orderOf-left : (P : List Point) → orderOf P ≡ L.mtf P .left
-orderOf-left P = ap (λ (s : State). s .left) (mtf-image P)
-
-pub diskOf-lowered : (p : Point) (P : List Point) → diskOf (p ∷ P) ≡ lowered (L.mtf (p ∷ P) .disk)
-diskOf-lowered p P = ap (λ (s : State). diskIn (s .cover)) (mtf-image (p ∷ P))
-    ∙ ap diskIn (cover-disk (L.mtf (p ∷ P) .disk) (mtf-strong p P .feasible .proper))
+pub diskOf-lowered : (p : Point) (P : List Point) → diskOf (p ∷ P) ≡ lowered (liftedMtf (p ∷ P) .disk)
+diskOf-lowered p P = ap diskIn (mtf-cover p P)

@@ -11,7 +11,8 @@
 use mathlib.Core.Path.{_≡_, refl, sym, _∙_, ap, subst}
 use mathlib.Core.Logic.{_⊎_, inl, inr}
 use mathlib.Core.Bool.{Bool, true, false, _&&_}
-use mathlib.Core.List.{List, [], _∷_, _++_, List·Memᴰ·head, List·Memᴰ·tail, List·Memᴰ·cases-cons, List·Memᴰ·not-nil, List·Memᴰ·append-cases, Memᴰ·append-left, Memᴰ·append-right}
+use mathlib.Core.List.{List, [], _∷_, _++_, List·Memᴰ·head, List·Memᴰ·tail, List·Memᴰ·cases-cons, List·Memᴰ·not-nil, List·Memᴰ·append-cases}
+use mathlib.Core.List.{Memᴰ·append-left, Memᴰ·append-right}
 use Prim.Native.Nat.{ℕ, suc, _≤_}
 use native.Mathlib.Omega.{arith}
 use lib.Dec.{T, eqb, eqb→eq, eqb-refl}
@@ -32,9 +33,9 @@ use Rattle.disks.specs.Support.{choose, sameDisk, supports, firstOf, fir
 pub use Rattle.disks.specs.Support.{candidates}
 use Rattle.disks.specs.FirstSupport.{IsSupport, Lexical, here, there, Earlier, fewer, lexical, IsFirstSupport}
 use Rattle.disks.proofs.Minimal.{strong-same}
-use Rattle.disks.proofs.LiftedProcedure.{mtf}
+use Rattle.disks.proofs.LiftedProcedure.{liftedMtf}
 use Rattle.disks.proofs.Correct.{mtf-strong}
-use Rattle.disks.proofs.Support.{SupportSet, Supported, one, two, three, support}
+use Rattle.disks.proofs.SupportPoints.{Supporting, Supported, one, two, three, support}
 use Rattle.disks.proofs.Bridge.{strong-written, diskOf-lowered}
 use Rattle.disks.proofs.StrongSmallest.{strong-smallest}
 use Rattle.disks.proofs.OneWriting.{smallest-same}
@@ -215,7 +216,7 @@ module _ (p : Point) (P : List Point) where
   to-sorted S f x i = sorted-same L .to x (f x i)
 
   -- a support set, sorted, is a candidate that passes
-  some-set : (S : List Point) → SupportSet L S (mtf L .disk) → (a : Point) → In a S → length S ≤ 3 → Passes (supports L) (candidates (sorted L)) found
+  some-set : (S : List Point) → Supporting L S (liftedMtf L .disk) → (a : Point) → In a S → length S ≤ 3 → Passes (supports L) (candidates (sorted L)) found
   some-set S s a i h = first-passes (supports L) (candidates (sorted L)) (candidates-earlier (sorted L) (sorted-rises L)) (sorted S)
       (a-candidate (sorted L) (sorted S) (sorted-rises L) (record {
         rises = sorted-rises S;
@@ -230,7 +231,7 @@ module _ (p : Point) (P : List Point) where
       long : 1 ≤ length (sorted S)
       long = not-empty (sorted S) (sorted-same S .to a i)
 
-  there-is : Supported L (mtf L .disk) → Passes (supports L) (candidates (sorted L)) found
+  there-is : Supported L (liftedMtf L .disk) → Passes (supports L) (candidates (sorted L)) found
   there-is (one a s) = some-set (a ∷ []) s a (List·Memᴰ·head refl) (omega arith)
   there-is (two a b s) = some-set (a ∷ b ∷ []) s a (List·Memᴰ·head refl) (omega arith)
   there-is (three a b c s) = some-set (a ∷ b ∷ c ∷ []) s a (List·Memᴰ·head refl) (omega arith)

@@ -21,7 +21,7 @@ use Rattle.geometry.specs.declared.Disk.{Disk}
 use Rattle.geometry.specs.Plane.{distance}
 use Rattle.disks.specs.Procedure.{lowestTerms}
 use Rattle.disks.proofs.Lifted.{Lifted, value, squaredRadius}
-use Rattle.disks.proofs.Weights.{boundary-length}
+use Rattle.disks.proofs.AboutCentre.{boundary-length}
 
 abbrev pub lowered : Lifted → Disk
 lowered F = lowestTerms (F .cx) (F .cy) (natAbs (F .e)) (natAbs (squaredRadius F))

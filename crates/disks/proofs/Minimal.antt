@@ -5,7 +5,7 @@
 --   Below P R F            == what the step asks of the disk found so far; the empty disk has it too
 --   strong-below, none-below    : a strongly minimal disk is below; the empty disk is
 --   to-boundary                 : a point outside goes to the boundary: a disk feasible for (P, R + p)
---   step                   : the strongly minimal disk of (P, R + p) is that of (P + p, R), if p was outside
+--   step-strong            : the strongly minimal disk of (P, R + p) is that of (P + p, R), if p was outside
 --   held                   : a point that is held changes nothing
 --   strong-same, feasible-same  : all this depends on the members alone
 use mathlib.Core.Path.{_≡_, refl, sym, _∙_, ap, subst}
@@ -87,11 +87,11 @@ combine-least : (b g a h : ℤ) → b ≤ℤ pos 0 → g ≤ℤ pos 0 → pos 0 
 combine-least b g a h hb hg ha s = nonneg-by (b ∷ g ∷ a ∷ h ∷ []) a ha (s ⊞ le hb ⊠ le hg) (search poly depth 30) tt
 
 -- Welzl's D_λ: through p, between a disk that p is outside of and one that holds p
-abbrev pub through : Lifted → Point → Lifted → Lifted
-through F p G = combine (negℤ (value G p)) F (value F p) G
+abbrev pub throughPoint : Lifted → Point → Lifted → Lifted
+throughPoint F p G = combine (negℤ (value G p)) F (value F p) G
 
 pub to-boundary : {P R : List Point} {F G : Lifted} {p : Point} → Below P R F → pos 0 <ℤ value F p → Feasible (p ∷ P) R G
-    → Feasible P (p ∷ R) (through F p G)
+    → Feasible P (p ∷ R) (throughPoint F p G)
 to-boundary {P} {R} {F} {G} {p} h out f = record {
   proper = combine-proper (value G p) (F .e) (value F p) (G .e) held (h .weight) out (f .proper);
   holds = λ q m. subst (λ (z : ℤ). z ≤ℤ pos 0) (sym (value-combine (negℤ (value G p)) F (value F p) G q))
@@ -115,13 +115,13 @@ fewer f = record { proper = f .proper; holds = λ q m. f .holds q (List·Memᴰ�
 pub one-more : {P R : List Point} {F : Lifted} {p : Point} → Feasible P R F → value F p ≤ℤ pos 0 → Feasible (p ∷ P) R F
 one-more {F} f h = record { proper = f .proper; holds = also (λ q. value F q ≤ℤ pos 0) h (f .holds); on-boundary = f .on-boundary }
 
-pub step : {P R : List Point} {F F1 : Lifted} {p : Point} → Below P R F → pos 0 <ℤ value F p → StronglyMinimal P (p ∷ R) F1
+pub step-strong : {P R : List Point} {F F1 : Lifted} {p : Point} → Below P R F → pos 0 <ℤ value F p → StronglyMinimal P (p ∷ R) F1
     → StronglyMinimal (p ∷ P) R F1
-step {P} {R} {F} {F1} {p} h out s = record {
+step-strong {P} {R} {F} {F1} {p} h out s = record {
   feasible = one-more (off-boundary (s .feasible)) (≤-of-eq (s .feasible .on-boundary p (List·Memᴰ·head refl)));
   least = λ G f. combine-least (value G p) (gap F1 F) (value F p) (gap F1 G) (f .holds p (List·Memᴰ·head refl))
       (h .under F1 (off-boundary (s .feasible))) out
-      (subst (λ (z : ℤ). pos 0 ≤ℤ z) (gap-combine F1 (negℤ (value G p)) F (value F p) G) (s .least (through F p G) (to-boundary h out f)));
+      (subst (λ (z : ℤ). pos 0 ≤ℤ z) (gap-combine F1 (negℤ (value G p)) F (value F p) G) (s .least (throughPoint F p G) (to-boundary h out f)));
 }
 
 -- ---- a point that is held changes nothing

@@ -17,11 +17,11 @@ use Rattle.point_lists.proofs.Sets.{none-of, also, same-refl}
 use Rattle.disks.specs.Smallest.{Smallest}
 use Rattle.disks.proofs.Lifted.{Lifted, value, squaredRadius}
 use Rattle.disks.proofs.Minimal.{StronglyMinimal}
-use Rattle.disks.proofs.Base.{Multiple, pointDisk, point-value, point-gap, positive-not-zero, positive-one}
-use Rattle.disks.proofs.Weights.{one-strong, two-strong}
+use Rattle.disks.proofs.Base.{Multiple, pointForm, point-value, point-gap, positive-not-zero, positive-one}
+use Rattle.disks.proofs.AboutCentre.{one-strong, two-strong}
 use Rattle.disks.proofs.Unique.{strong-unique, strong-multiple}
 use Rattle.disks.proofs.Acute.{pair-own}
-use Rattle.disks.proofs.LiftedProcedure.{mtf}
+use Rattle.disks.proofs.LiftedProcedure.{liftedMtf}
 use Rattle.disks.proofs.Correct.{mtf-strong}
 use Rattle.disks.proofs.LowestTerms.{lowered, Written}
 use Rattle.disks.proofs.StrongSmallest.{strong-smallest}
@@ -64,7 +64,7 @@ smallest-strong {q} {Q} {d} F hf w m = strong-multiple strong hf
     (written-multiple (strong .feasible .proper) hf (subst (Written G) (sym same) (strong-written strong)) w)
   where
     G : Lifted
-    G = mtf (q ∷ Q) .disk
+    G = liftedMtf (q ∷ Q) .disk
 
     strong : StronglyMinimal (q ∷ Q) [] G
     strong = mtf-strong q Q
@@ -74,19 +74,19 @@ smallest-strong {q} {Q} {d} F hf w m = strong-multiple strong hf
 
 -- ---- one point
 
-pub point-own : (a : Point) → StronglyMinimal (a ∷ []) [] (pointDisk a)
+pub point-own : (a : Point) → StronglyMinimal (a ∷ []) [] (pointForm a)
 point-own a = record {
   feasible = record {
     proper = positive-one;
     holds = also Held (≤-of-eq (point-value a)) (none-of Held);
     on-boundary = none-of
-        (λ p. value (pointDisk a) p ≡ pos 0);
+        (λ p. value (pointForm a) p ≡ pos 0);
   };
   least = λ G f. subst (λ (z : ℤ). pos 0 ≤ℤ z) (sym (point-gap a G)) (minus (value G a) (f .holds a (List·Memᴰ·head refl)));
 }
   where
     Held : Point → Type 0
-    Held p = value (pointDisk a) p ≤ℤ pos 0
+    Held p = value (pointForm a) p ≤ℤ pos 0
 
     minus : (v : ℤ) → v ≤ℤ pos 0 → pos 0 ≤ℤ negℤ v
     minus v h = nonneg (v ∷ []) (le h) (search poly depth 30) tt

@@ -1,10 +1,10 @@
 -- The disk through three points.
 --
 --   turn a b c           == twice the area of the triangle, with a sign
---   circle, tripleDisk   == the form that vanishes at three points; the same with its sign turned where E would be negative
---   circle-only          : every form that vanishes at the three is a multiple of `circle`
+--   vanishing, tripleForm   == the form that vanishes at three points; the same with its sign turned where E would be negative
+--   vanishing-only          : every form that vanishes at the three is a multiple of `vanishing`
 --   not-in-row           : three different points that some disk has on its boundary are not in a row
---   triple-strong        : so `tripleDisk` is strongly minimal for whatever such a disk holds
+--   triple-strong        : so `tripleForm` is strongly minimal for whatever such a disk holds
 use mathlib.Core.Path.{_≡_, refl, sym, _∙_, ap}
 use mathlib.Core.Logic.{_⊎_, inl, inr, _≢_}
 use mathlib.Core.Bool.{Bool, true, false, not}
@@ -19,6 +19,7 @@ use Rattle.integers.proofs.Order.{≤-of-eq, positive, lt, nn, <-≤-clash, Com
 use Rattle.geometry.specs.declared.Point.{Point}
 use Rattle.point_lists.specs.Sets.{Different, In}
 use Rattle.point_lists.proofs.Sets.{none-of, also, point-path}
+use Rattle.disks.specs.Procedure.{norm}
 use Rattle.disks.proofs.Lifted.{Lifted, value}
 use Rattle.disks.proofs.Minimal.{Feasible, StronglyMinimal}
 use Rattle.disks.proofs.Base.{Multiple, multiple-value, multiple-no-gap, holds-by, positive-not-zero}
@@ -30,9 +31,6 @@ ux a b = b .x -ℤ a .x
 
 abbrev pub uy : Point → Point → ℤ
 uy a b = b .y -ℤ a .y
-
-abbrev pub norm : ℤ → ℤ → ℤ
-norm u v = u *ℤ u +ℤ v *ℤ v
 
 -- twice the area, with a sign
 abbrev pub turn : Point → Point → Point → ℤ
@@ -46,31 +44,31 @@ abbrev pub gy : Point → Point → Point → ℤ
 gy a b c = norm (ux a c) (uy a c) *ℤ ux a b -ℤ norm (ux a b) (uy a b) *ℤ ux a c
 
 -- the form that vanishes at the three: a disk if they turn left
-abbrev pub circle : Point → Point → Point → Lifted
-circle a b c = record {
+abbrev pub vanishing : Point → Point → Point → Lifted
+vanishing a b c = record {
   e = pos 2 *ℤ turn a b c;
   cx = a .x *ℤ (pos 2 *ℤ turn a b c) +ℤ gx a b c;
   cy = a .y *ℤ (pos 2 *ℤ turn a b c) +ℤ gy a b c;
   k = (pos 2 *ℤ turn a b c) *ℤ norm (a .x) (a .y) +ℤ pos 2 *ℤ (gx a b c *ℤ a .x +ℤ gy a b c *ℤ a .y);
 }
 
-circle-a : (a b c : Point) → value (circle a b c) a ≡ pos 0
-circle-a a b c = ring (a .x ∷ a .y ∷ b .x ∷ b .y ∷ c .x ∷ c .y ∷ []) (search poly depth 30) tt
+vanishing-a : (a b c : Point) → value (vanishing a b c) a ≡ pos 0
+vanishing-a a b c = ring (a .x ∷ a .y ∷ b .x ∷ b .y ∷ c .x ∷ c .y ∷ []) (search poly depth 30) tt
 
-circle-b : (a b c : Point) → value (circle a b c) b ≡ pos 0
-circle-b a b c = ring (a .x ∷ a .y ∷ b .x ∷ b .y ∷ c .x ∷ c .y ∷ []) (search poly depth 30) tt
+vanishing-b : (a b c : Point) → value (vanishing a b c) b ≡ pos 0
+vanishing-b a b c = ring (a .x ∷ a .y ∷ b .x ∷ b .y ∷ c .x ∷ c .y ∷ []) (search poly depth 30) tt
 
-circle-c : (a b c : Point) → value (circle a b c) c ≡ pos 0
-circle-c a b c = ring (a .x ∷ a .y ∷ b .x ∷ b .y ∷ c .x ∷ c .y ∷ []) (search poly depth 30) tt
+vanishing-c : (a b c : Point) → value (vanishing a b c) c ≡ pos 0
+vanishing-c a b c = ring (a .x ∷ a .y ∷ b .x ∷ b .y ∷ c .x ∷ c .y ∷ []) (search poly depth 30) tt
 
 -- ---- every form that vanishes at the three is a multiple
 
 module _ (a b c : Point) (G : Lifted) (ha : value G a ≡ pos 0) (hb : value G b ≡ pos 0) (hc : value G c ≡ pos 0) where
-  only-x : circle a b c .e *ℤ G .cx ≡ G .e *ℤ circle a b c .cx
+  only-x : vanishing a b c .e *ℤ G .cx ≡ G .e *ℤ vanishing a b c .cx
   only-x = linear (a .x ∷ a .y ∷ b .x ∷ b .y ∷ c .x ∷ c .y ∷ G .e ∷ G .cx ∷ G .cy ∷ G .k ∷ [])
       (eqn (uy a c -ℤ uy a b) ha & eqn (negℤ (uy a c)) hb & eqn (uy a b) hc) (search poly depth 30) tt
 
-  only-y : circle a b c .e *ℤ G .cy ≡ G .e *ℤ circle a b c .cy
+  only-y : vanishing a b c .e *ℤ G .cy ≡ G .e *ℤ vanishing a b c .cy
   only-y = linear (a .x ∷ a .y ∷ b .x ∷ b .y ∷ c .x ∷ c .y ∷ G .e ∷ G .cx ∷ G .cy ∷ G .k ∷ [])
       (eqn (ux a b -ℤ ux a c) ha & eqn (ux a c) hb & eqn (negℤ (ux a b)) hc) (search poly depth 30) tt
 
@@ -80,11 +78,11 @@ same-k-from : (F G : Lifted) (a : Point) → value F a ≡ pos 0 → value G a �
 same-k-from F G a hf hg hx hy = linear (F .e ∷ F .cx ∷ F .cy ∷ F .k ∷ G .e ∷ G .cx ∷ G .cy ∷ G .k ∷ a .x ∷ a .y ∷ [])
     (eqn (F .e) hg & eqn (negℤ (G .e)) hf & eqn (pos 2 *ℤ a .x) hx & eqn (pos 2 *ℤ a .y) hy) (search poly depth 30) tt
 
-pub circle-only : (a b c : Point) (G : Lifted) → value G a ≡ pos 0 → value G b ≡ pos 0 → value G c ≡ pos 0 → Multiple (circle a b c) G
-circle-only a b c G ha hb hc = record {
+pub vanishing-only : (a b c : Point) (G : Lifted) → value G a ≡ pos 0 → value G b ≡ pos 0 → value G c ≡ pos 0 → Multiple (vanishing a b c) G
+vanishing-only a b c G ha hb hc = record {
   same-x = only-x a b c G ha hb hc;
   same-y = only-y a b c G ha hb hc;
-  same-k = same-k-from (circle a b c) G a (circle-a a b c) ha (only-x a b c G ha hb hc) (only-y a b c G ha hb hc);
+  same-k = same-k-from (vanishing a b c) G a (vanishing-a a b c) ha (only-x a b c G ha hb hc) (only-y a b c G ha hb hc);
 }
 
 -- ---- the sign of E
@@ -93,8 +91,8 @@ abbrev pub turned : Bool → Lifted → Lifted
 turned true F = record { e = negℤ (F .e); cx = negℤ (F .cx); cy = negℤ (F .cy); k = negℤ (F .k) }
 turned false F = F
 
-abbrev pub tripleDisk : Point → Point → Point → Lifted
-tripleDisk a b c = turned (ltZ (circle a b c .e) (pos 0)) (circle a b c)
+abbrev pub tripleForm : Point → Point → Point → Lifted
+tripleForm a b c = turned (ltZ (vanishing a b c .e) (pos 0)) (vanishing a b c)
 
 turned-value : (F : Lifted) (p : Point) → value (turned true F) p ≡ negℤ (value F p)
 turned-value F p = ring (F .e ∷ F .cx ∷ F .cy ∷ F .k ∷ p .x ∷ p .y ∷ []) (search poly depth 30) tt
@@ -191,7 +189,7 @@ not-in-row {P} {a} {b} {c} {G} f d w = lengths
 
 -- ---- strongly minimal
 
-turn-weight : (a b c : Point) → turn a b c ≢ pos 0 → circle a b c .e ≢ pos 0
+turn-weight : (a b c : Point) → turn a b c ≢ pos 0 → vanishing a b c .e ≢ pos 0
 turn-weight a b c n z = go (zero-product (pos 2) (turn a b c) z)
   where
     go : (pos 2 ≡ pos 0) ⊎ (turn a b c ≡ pos 0) → ⊥
@@ -199,26 +197,27 @@ turn-weight a b c n z = go (zero-product (pos 2) (turn a b c) z)
     go (inr t) = n t
 
 pub triple-strong : {P : List Point} {a b c : Point} {G : Lifted} → Feasible P (a ∷ b ∷ c ∷ []) G → Different (a ∷ b ∷ c ∷ [])
-    → StronglyMinimal P (a ∷ b ∷ c ∷ []) (tripleDisk a b c)
+    → StronglyMinimal P (a ∷ b ∷ c ∷ []) (tripleForm a b c)
 triple-strong {P} {a} {b} {c} {G} f d = record {
   feasible = record { proper = proper; holds = λ p m. holds-by proper (f .proper) (multiple-value (only G f) p) (f .holds p m); on-boundary = on };
   least = λ H h. ≤-of-eq (sym (multiple-no-gap proper (only H h)));
 }
   where
     s : Bool
-    s = ltZ (circle a b c .e) (pos 0)
+    s = ltZ (vanishing a b c .e) (pos 0)
 
-    proper : pos 0 <ℤ tripleDisk a b c .e
-    proper = turned-proper (circle a b c) (turn-weight a b c (not-in-row f d))
+    proper : pos 0 <ℤ tripleForm a b c .e
+    proper = turned-proper (vanishing a b c) (turn-weight a b c (not-in-row f d))
 
-    only : (H : Lifted) → Feasible P (a ∷ b ∷ c ∷ []) H → Multiple (tripleDisk a b c) H
-    only H h = turned-multiple s (circle a b c) H
-        (circle-only a b c H (h .on-boundary a (List·Memᴰ·head refl)) (h .on-boundary b (List·Memᴰ·tail (List·Memᴰ·head refl)))
+    only : (H : Lifted) → Feasible P (a ∷ b ∷ c ∷ []) H → Multiple (tripleForm a b c) H
+    only H h = turned-multiple s (vanishing a b c) H
+        (vanishing-only a b c H (h .on-boundary a (List·Memᴰ·head refl)) (h .on-boundary b (List·Memᴰ·tail (List·Memᴰ·head refl)))
         (h .on-boundary c (List·Memᴰ·tail (List·Memᴰ·tail (List·Memᴰ·head refl)))))
 
     On : Point → Type 0
-    On q = value (tripleDisk a b c) q ≡ pos 0
+    On q = value (tripleForm a b c) q ≡ pos 0
 
     on : (q : Point) → In q (a ∷ b ∷ c ∷ []) → On q
-    on = also On (turned-vanishes s (circle a b c) a (circle-a a b c))
-        (also On (turned-vanishes s (circle a b c) b (circle-b a b c)) (also On (turned-vanishes s (circle a b c) c (circle-c a b c)) (none-of On)))
+    on = also On (turned-vanishes s (vanishing a b c) a (vanishing-a a b c))
+        (also On (turned-vanishes s (vanishing a b c) b (vanishing-b a b c))
+        (also On (turned-vanishes s (vanishing a b c) c (vanishing-c a b c)) (none-of On)))

@@ -3,13 +3,14 @@
 --   mtf-disk, mtf-smallest : with R fixed, at most three points and all different, and some rational disk that fits (P, R), the procedure
 --                            ends on a disk, the smallest for (P, R)
 --   boundary-smallest      : `boundaryDisk R` is the smallest disk with R on its boundary, if there is any
---   smallest               : from no point fixed, for every list of at least one point
+--   mtf-ends               : from no point fixed, for every list of at least one point, it ends on a disk
+--   smallest               : and that is the smallest
 --   disk-same              : lists with the same points have the same disk
 --   tests-most             : the tests are at most (n³ + 5n)/6
 --   order-permuted         : the list left has the same points, each as often as before
 use mathlib.Core.Path.{_≡_, refl, sym, _∙_, ap, subst}
 use mathlib.Core.List.{List, [], _∷_, List·Memᴰ·head, List·Memᴰ·not-nil, List·Permᴰ}
-use Prim.Native.Nat.{ℕ, _+_, _-_, _*_, _≤_}
+use Prim.Native.Nat.{_+_, _-_, _*_, _≤_}
 use native.Mathlib.Omega.{arith}
 use lib.ListN.{length}
 use Rattle.geometry.specs.declared.Point.{Point}
@@ -18,21 +19,21 @@ use Rattle.point_lists.proofs.Sets.{same-refl}
 use Rattle.disks.specs.Smallest.{RationalDisk, Fits, SmallestWith, Smallest}
 use Rattle.disks.specs.Procedure.{Cover, disk, State, boundaryDisk, mtf, mtf-empty, diskIn, diskOf, testsOf, orderOf}
 use Rattle.disks.proofs.Minimal.{StronglyMinimal}
-use Rattle.disks.proofs.LiftedProcedure as L
-use Rattle.disks.proofs.Correct.{run-strong, mtf-ran, mtf-strong}
-use Rattle.disks.proofs.Count.{mtf-count}
+use Rattle.disks.proofs.LiftedProcedure.{liftedRun}
+use Rattle.disks.proofs.Correct.{run-strong, mtf-strong}
+use Rattle.disks.proofs.Runs.{run-permuted, run-tests, most-three}
 use Rattle.disks.proofs.LowestTerms.{lowered}
-use Rattle.disks.proofs.Bridge.{cover-disk, strong-written, run-image, diskOf-lowered, testsOf-count, orderOf-left}
+use Rattle.disks.proofs.Bridge.{cover-disk, strong-written, run-agree, mtf-cover, diskOf-lowered}
 use Rattle.disks.proofs.StrongSmallest.{lift, lift-feasible, strong-smallest}
 use Rattle.disks.proofs.OneWriting.{smallest-same}
 
 module _ (R P : List Point) (most : length R ≤ 3) (different : Different R) (some : 1 ≤ length P + length R) (c : RationalDisk) (fits : Fits c P R) where
-  strong : StronglyMinimal P R (L.run R P .disk)
+  strong : StronglyMinimal P R (liftedRun R P .disk)
   strong = run-strong R P (lift c) most some different (lift-feasible fits)
 
-  cover-is : mtf R P .cover ≡ disk (lowered (L.run R P .disk))
-  cover-is = ap (λ (s : State). s .cover) (run-image (3 - length R) R P (lift c) (lift-feasible fits) different (omega arith))
-      ∙ cover-disk (L.run R P .disk) (strong .feasible .proper)
+  cover-is : mtf R P .cover ≡ disk (lowered (liftedRun R P .disk))
+  cover-is = run-agree (3 - length R) R P (lift c) (lift-feasible fits) different (omega arith) .cover-is
+      ∙ cover-disk (liftedRun R P .disk) (strong .feasible .proper)
 
   pub mtf-disk : mtf R P .cover ≡ disk (diskIn (mtf R P .cover))
   mtf-disk = cover-is ∙ ap (λ (k : Cover). disk (diskIn k)) (sym cover-is)
@@ -48,6 +49,9 @@ boundary-smallest R some most different c fits = subst (λ (s : State). Smallest
 
 -- ---- from no point fixed
 
+pub mtf-ends : (p : Point) (P : List Point) → mtf [] (p ∷ P) .cover ≡ disk (diskOf (p ∷ P))
+mtf-ends p P = mtf-cover p P ∙ ap (λ (c : Cover). disk (diskIn c)) (sym (mtf-cover p P))
+
 pub smallest : (p : Point) (P : List Point) → Smallest (p ∷ P) (diskOf (p ∷ P))
 smallest p P = subst (Smallest (p ∷ P)) (sym (diskOf-lowered p P)) (strong-smallest (mtf-strong p P) (strong-written (mtf-strong p P)))
 
@@ -58,7 +62,7 @@ disk-same (p ∷ P) [] s = absurd (List·Memᴰ·not-nil (s .to p (List·Memᴰ�
 disk-same (p ∷ P) (q ∷ Q) s = smallest-same s (same-refl []) (smallest p P) (smallest q Q)
 
 pub tests-most : (P : List Point) → 6 * testsOf P ≤ length P * length P * length P + 5 * length P
-tests-most P = subst (λ (n : ℕ). 6 * n ≤ length P * length P * length P + 5 * length P) (sym (testsOf-count P)) (mtf-count P)
+tests-most P = omega (arith, most-three (length P), run-tests 3 [] P)
 
 pub order-permuted : (P : List Point) → List·Permᴰ (orderOf P) P
-order-permuted P = subst (λ (l : List Point). List·Permᴰ l P) (sym (orderOf-left P)) (mtf-ran P .left-permuted)
+order-permuted P = run-permuted 3 [] P

@@ -1,7 +1,6 @@
 -- A list of numbers as points, and points as numbers.
 --
 --   two-suc                 : 2(n + 1) as two more than 2n
---   toFront l i             == point i moved to the front, those before it back by one place
 --   length-flat             : the numbers of n points are 2n
 --   flat-append             : the numbers of two lists of points, one after the other
 --   points-flat             : the points of the numbers of ps, with more numbers behind
@@ -22,14 +21,11 @@ use Prim.Native.Nat.{ℕ, zero, suc, _+_, _*_, _%_, _≤_, _<_}
 use native.Mathlib.Nat.{add-zero}
 use native.Mathlib.Numerals.{add-one, add-two}
 use native.Mathlib.Omega.{arith}
-use lib.ListN.{length, getD, take, drop}
+use lib.ListN.{length, getD, drop}
 use lib.Seq.{drop-cons, drop-drop, drop-append-add, getD-append-add, getD-drop, take-at}
 use lib.IntN.{ℤ, pos}
 use Rattle.geometry.specs.declared.Point.{Point}
-use Rattle.geometry.specs.Points.{points, flat, pointAt, firstPoints}
-
-abbrev pub toFront : List ℤ → ℕ → List ℤ
-toFront l i = getD l (2 * i) (pos 0) ∷ getD l (2 * i + 1) (pos 0) ∷ (take (2 * i) l ++ drop (2 * i + 2) l)
+use Rattle.geometry.specs.Points.{points, flat, pointAt, firstPoints, toFront}
 
 pub two-suc : (n : ℕ) → 2 * suc n ≡ suc (suc (2 * n))
 two-suc n = omega arith

@@ -31,8 +31,8 @@ use Rattle.disks.specs.Support.{candidates, firstOf, firstSupport}
 use Rattle.disks.specs.FirstSupport.{IsSupport, IsFirstSupport, Earlier, fewer, lexical}
 use Rattle.disks.proofs.Lifted.{Lifted, value}
 use Rattle.disks.proofs.Minimal.{StronglyMinimal, strong-same}
-use Rattle.disks.proofs.Base.{Multiple, multiple-value, point-value, pairDisk, pair-first, pair-second, positive-one, positive-two, positive-not-zero}
-use Rattle.disks.proofs.LiftedProcedure.{mtf}
+use Rattle.disks.proofs.Base.{Multiple, multiple-value, point-value, pairForm, pair-first, pair-second, positive-one, positive-two, positive-not-zero}
+use Rattle.disks.proofs.LiftedProcedure.{liftedMtf}
 use Rattle.disks.proofs.Correct.{mtf-strong}
 use Rattle.disks.proofs.LowestTerms.{Written}
 use Rattle.disks.proofs.StrongSmallest.{strong-smallest, written-some}
@@ -40,7 +40,7 @@ use Rattle.disks.proofs.Bridge.{strong-written, diskOf-lowered}
 use Rattle.disks.proofs.Unique.{strong-unique, strong-multiple, multiple-sym}
 use Rattle.disks.proofs.Own.{point-own, smallest-strong}
 use Rattle.disks.proofs.Acute.{pair-own, kind, Kind, side-bc, side-ac, side-ab, acute}
-use Rattle.disks.proofs.Support.{SupportSet, Supported, one, two, three, support}
+use Rattle.disks.proofs.SupportPoints.{Supporting, Supported, one, two, three, support}
 use Rattle.disks.proofs.OneWriting.{smallest-same}
 use Rattle.disks.proofs.Answer.{em-square, limits}
 use Rattle.disks.proofs.Choose.{Among}
@@ -79,7 +79,7 @@ module _ (p : Point) (P : List Point) where
   d = diskOf L
 
   abbrev F : Lifted
-  F = mtf L .disk
+  F = liftedMtf L .disk
 
   abbrev Q : List Point
   Q = sorted (boundaryOf d L)
@@ -145,7 +145,7 @@ module _ (p : Point) (P : List Point) where
 
   -- the disk over two of three points: these two have it as their own
   side-passes : (a b : Point) (R : List Point) → length R ≡ 3 → Rising (a ∷ b ∷ []) → ((x : Point) → In x (a ∷ b ∷ []) → In x L)
-      → Multiple F (pairDisk a b) → Passing Q d R
+      → Multiple F (pairForm a b) → Passing Q d R
   side-passes a b R e r f u =
       let s = two-passes a b r f (strong-multiple (pair-own a b) proper (multiple-sym u)) in
       record { set = s .set; among = s .among; passes = s .passes; size = inr (smaller (s .set) (s .size)) }
@@ -189,7 +189,7 @@ module _ (p : Point) (P : List Point) where
   first-of : (R : List Point) → Passing Q d R → Passes (fits d) (candidates Q) found
   first-of R s = first-passes (fits d) (candidates Q) (candidates-earlier Q (sorted-rises (boundaryOf d L))) (s .set) (s .among) (s .passes)
 
-  of-sorted : (S : List Point) → SupportSet L S F → (a : Point) → In a S → length S ≤ 3 → Passes (fits d) (candidates Q) found
+  of-sorted : (S : List Point) → Supporting L S F → (a : Point) → In a S → length S ≤ 3 → Passes (fits d) (candidates Q) found
   of-sorted S s a i k = first-of (sorted S)
       (passing (sorted S) (sorted-rises S) (λ x j. s .members x (sorted-same S .from x j)) (not-empty (sorted S) (sorted-same S .to a i))
       (omega (arith, sorted-length S, k)) (strong-same (sorted-same S) (s .own)))

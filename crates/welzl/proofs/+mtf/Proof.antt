@@ -13,22 +13,22 @@ use borrow.Fn.PlainCycle.{Measures, is, falls, and}
 use Rattle.geometry.specs.EmBox.{inEmBox}
 use Rattle.geometry.specs.Points.{pointAt}
 use Rattle.geometry.proofs.PointLists.{pointAt-firstPoints}
-use Rattle.welzl.specs.declared.Boundary.{Boundary}
-use Rattle.welzl.specs.Boundary.{members, roomIn, added}
-use Rattle.welzl.specs.Relative.{isOutside}
-use Rattle.welzl.specs.Ran.{Boxed, Ran}
-use Rattle.welzl.proofs.RelativeLaws.{near-box}
+use Rattle.relative_disks.specs.Relative.{isOutside}
+use Rattle.relative_disks.proofs.RelativeLaws.{near-box}
+use Rattle.fixed_points.specs.declared.Boundary.{Boundary}
+use Rattle.fixed_points.specs.Boundary.{members, roomIn, added, Boxed}
+use Rattle.welzl.specs.Ran.{Ran}
 use Rattle.welzl.proofs.RunLaws.{room-falls}
 use Rattle.welzl.proofs.RanLaws.{ran-full, ran-none, ran-kept, ran-moved, ran-length, ran-tests, point-same, prefix-boxed, added-boxed}
 use Rattle.welzl.proofs.mtf.Reads as mtf
 use Rattle.welzl.proofs.mtf.Kinds as mtf-kinds
 use Rattle.welzl.proofs.+mtf.Lts-mtf as lts
 use Rattle.geometry.proofs.point_at.Reads as point-at-reads
-use Rattle.welzl.proofs.add_point.Reads as add-point-reads
-use Rattle.welzl.proofs.boundary_disk.Reads as boundary-disk-reads
-use Rattle.welzl.proofs.is_outside.Reads as is-outside-reads
-use Rattle.welzl.proofs.move_to_front.Reads as move-to-front-reads
-use Rattle.welzl.proofs.room.Reads as room-reads
+use Rattle.fixed_points.proofs.add_point.Reads as add-point-reads
+use Rattle.fixed_points.proofs.boundary_disk.Reads as boundary-disk-reads
+use Rattle.relative_disks.proofs.is_outside.Reads as is-outside-reads
+use Rattle.point_moves.proofs.move_to_front.Reads as move-to-front-reads
+use Rattle.fixed_points.proofs.room.Reads as room-reads
 use Rattle.welzl.proofs.+mtf.{statement}
 use Rattle.welzl.proofs.+mtf.Tie.{close}
 
@@ -80,12 +80,14 @@ module _ (t : ℕ) where
   kept : (c : At) → length (c .loop .list) ≡ length (c .before .before .before .before .args .list .now)
   kept c =
       let s = c .before .before .before .before in
-      ran-length (s .args .fixed) (c .loop .i) (s .args .list .now) (c .loop .list) (c .loop .disk) (c .loop .inner + c .loop .i) (omega arith) (c .loop .inv .1)
+      ran-length (s .args .fixed) (c .loop .i) (s .args .list .now) (c .loop .list) (c .loop .disk) (c .loop .inner + c .loop .i) (omega arith)
+      (c .loop .inv .1)
 
   counted : (c : At) → c .loop .inner + c .loop .i < 2 ^ 36
   counted c =
       let s = c .before .before .before .before in
-      ran-tests (s .args .fixed) (c .loop .i) (s .args .list .now) (c .loop .list) (c .loop .disk) (c .loop .inner + c .loop .i) (omega arith) (c .loop .inv .1) (omega arith)
+      ran-tests (s .args .fixed) (c .loop .i) (s .args .list .now) (c .loop .list) (c .loop .disk) (c .loop .inner + c .loop .i) (omega arith)
+      (c .loop .inv .1) (omega arith)
 
   more : (c : At) → roomIn (c .before .before .before .before .args .fixed) ≡ 0 → ⊥
   more c e = c .before .if1 .left (c .before .before .room .ensures ∙ e)
@@ -97,11 +99,13 @@ module _ (t : ℕ) where
   fits : (c : InLoop) → 2 * c .before .loop .i + 2 ≤ length (c .before .before .before .before .before .args .list .now)
   fits c = omega (arith, c .loop-test .taken, c .before .before .before .before .before .pre .1 .fits)
 
-  same-point : (c : InLoop) → pointAt (c .before .loop .list) (c .before .loop .i) ≡ pointAt (c .before .before .before .before .before .args .list .now) (c .before .loop .i)
+  same-point : (c : InLoop) → pointAt (c .before .loop .list) (c .before .loop .i) ≡ pointAt
+      (c .before .before .before .before .before .args .list .now) (c .before .loop .i)
   same-point c =
       let at = c .before in
       let s = at .before .before .before .before in
-      point-same (s .args .fixed) (at .loop .i) (s .args .list .now) (at .loop .list) (at .loop .disk) (at .loop .inner + at .loop .i) (more at) (fits c) (at .loop .inv .1)
+      point-same (s .args .fixed) (at .loop .i) (s .args .list .now) (at .loop .list) (at .loop .disk) (at .loop .inner + at .loop .i) (more at)
+      (fits c) (at .loop .inv .1)
 
   boxed : (c : InLoop) → inEmBox (pointAt (c .before .before .before .before .before .args .list .now) (c .before .loop .i)) ≡ true
   boxed c =
@@ -134,7 +138,8 @@ module _ (t : ℕ) where
 
   again :
       (c : Called)
-      → let a = c .before .before .before in Ran (next a) (head a .loop .i) (head a .loop .list) (c .mtf .last .0) (c .mtf .result .disk) (c .mtf .result .tests)
+      → let a = c .before .before .before in Ran (next a) (head a .loop .i) (head a .loop .list) (c .mtf .last .0) (c .mtf .result .disk)
+      (c .mtf .result .tests)
   again c = rw (next-is (c .before .before .before)) at (c .mtf .ensures)
 
   -- after both branches: the call's promise, made by a call or without one
@@ -143,7 +148,8 @@ module _ (t : ℕ) where
 
   ran-again :
       (c : Settled)
-      → let a = c .before in (k : ℕ) × Ran (next a) (head a .loop .i) (head a .loop .list) (c .if3 .list) (c .if3 .disk) k × (c .if3 .inner ≡ head a .loop .inner + k)
+      → let a = c .before in (k : ℕ) × Ran (next a) (head a .loop .i) (head a .loop .list) (c .if3 .list) (c .if3 .disk) k ×
+      (c .if3 .inner ≡ head a .loop .inner + k)
   ran-again c =
       let a = c .before in
       let l = head a .loop .list in
@@ -199,7 +205,8 @@ module _ (t : ℕ) where
           few = omega (arith, inside .loop-test .taken, s .pre .1 .few);
           fits = omega (arith, kept at, fits inside);
           fixed-boxed = next-boxed a;
-          list-boxed = prefix-boxed R i l (at .loop .list) (at .loop .disk) (at .loop .inner + at .loop .i) (more at) (fits inside) (at .loop .inv .1) (s .args .n) (at .loop .inv .0) (s .pre .1 .list-boxed);
+          list-boxed = prefix-boxed R i l (at .loop .list) (at .loop .disk) (at .loop .inner + at .loop .i) (more at) (fits inside) (at .loop .inv .1)
+              (s .args .n) (at .loop .inv .0) (s .pre .1 .list-boxed);
         },
       )
 
@@ -211,7 +218,8 @@ module _ (t : ℕ) where
       omega (
         arith,
         counted at,
-        ran-tests (next a) (at .loop .i) (at .loop .list) (m .mtf .last .0) (m .mtf .result .disk) (m .mtf .result .tests) (omega (arith, kept at)) (again m) (omega arith),
+        ran-tests (next a) (at .loop .i) (at .loop .list) (m .mtf .last .0) (m .mtf .result .disk) (m .mtf .result .tests) (omega (arith, kept at))
+            (again m) (omega arith),
       )
 
   boundary-disk-requires-2 : lts.Need-boundary-disk-requires-2 (claims t) (mtf-at t) mtf.Post Inv-loop μ-loop
@@ -248,11 +256,13 @@ module _ (t : ℕ) where
             let j : Settled = record { before = record { before = record { before = c .before; if2 = w .0 }; add-point = w .1 }; if3 = w .2 } in
             let g = ran-again j in
             rw (w .6, w .4 .ensures, w .7, w .8, g .2, moved-sum (at .loop .inner) (g .0) (at .loop .i))
-            (ran-moved (s .args .fixed) (at .loop .i) (s .args .list .now) (at .loop .list) (at .loop .disk) (at .loop .inner + at .loop .i) (more at) (fits inside) (at .loop .inv .1)
+            (ran-moved (s .args .fixed) (at .loop .i) (s .args .list .now) (at .loop .list) (at .loop .disk) (at .loop .inner + at .loop .i) (more at)
+            (fits inside) (at .loop .inv .1)
             (w .2 .list) (w .2 .disk) (g .0) (boxed inside) (tested ∙ w .0 .taken) (g .1)))
             (λ w.
             rw (w .1, w .2, w .3, kept-sum (at .loop .inner) (at .loop .i))
-            (ran-kept (s .args .fixed) (at .loop .i) (s .args .list .now) (at .loop .list) (at .loop .disk) (at .loop .inner + at .loop .i) (more at) (fits inside) (at .loop .inv .1)
+            (ran-kept (s .args .fixed) (at .loop .i) (s .args .list .now) (at .loop .list) (at .loop .disk) (at .loop .inner + at .loop .i) (more at)
+            (fits inside) (at .loop .inv .1)
             (boxed inside) (tested ∙ w .0 .left)))
             (c .if2 .came),
       )
