@@ -9,12 +9,6 @@ use Rattle.listing.specs.Reading.{Holds}
 use borrow.Author.Needs.{needs}
 use Rattle.listing.proofs.main.Statement.{statement}
 use Rattle.listing.proofs.main.Tie as tie
-use Rattle.listing.proofs.main.Reads as reads
-use Rattle.listing.proofs.main.Lts as lts
-use Rattle.io.proofs.large_buffer.Reads as large-buffer-reads
-use Rattle.listing.proofs.read_all.Reads as read-all-reads
-use Rattle.os.proofs.fail.Reads as fail-reads
-use Rattle.report.proofs.print_description.Reads as print-description-reads
 
 -- what was read lies within the buffer
 read-within : (c : tie.After-known-told) → c .before .n .given .0 .0 ≤ length (c .before .before .before .before .read-all .last .0)
@@ -40,9 +34,6 @@ array-share-prefix-text c = read-within c
 
 slice-aggregate-print-description : tie.Need-slice-aggregate-print-description
 slice-aggregate-print-description c = sym (length-take-le (c .before .before .n .given .0 .0) (c .before .before .before .before .before .read-all .last .0) (read-within (c .before)))
-
-slice-aggregate-print-description-2 : tie.Need-slice-aggregate-print-description-2
-slice-aggregate-print-description-2 c = search needs
 
 print-description-requires : tie.Need-print-description-requires
 print-description-requires c κs = search needs
@@ -72,7 +63,6 @@ main-spec =
     enum-known-n
     array-share-prefix-text
     slice-aggregate-print-description
-    slice-aggregate-print-description-2
     print-description-requires
     enum-told
     slice-aggregate-fail

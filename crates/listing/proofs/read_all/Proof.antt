@@ -10,9 +10,6 @@ use Rattle.listing.specs.declared.Got.{Got}
 use Rattle.listing.specs.Reading.{Brings}
 use Rattle.listing.proofs.read_all.Statement.{statement}
 use Rattle.listing.proofs.read_all.Tie as tie
-use Rattle.listing.proofs.read_all.Reads as reads
-use Rattle.listing.proofs.read_all.Lts as lts
-use Rattle.listing.proofs.read_some.Reads as read-some-reads
 
 abbrev Inv-loop : tie.InvT-loop
 Inv-loop buf₀ done₀ buf done = (done ≤ length buf) × (length buf ≡ length buf₀)
