@@ -2,7 +2,7 @@
 ghost use mathlib.Core.Path.{_≡_};
 ghost use Rattle.answers.specs.Outcome.{refused, numberOf};
 ghost use Rattle.geometry.specs.Plane.{members};
-ghost use Rattle.record.specs.Radius.{radiusOf};
+ghost use Rattle.radius.specs.Radius.{radiusOf};
 ghost use Rattle.c_types.specs.Support.{pointsOf};
 ghost use Rattle.c_radius.specs.Answer.{radiusAnswer};
 use answers::Refusal;
@@ -10,6 +10,7 @@ use c_types::Given;
 use c_types::Support;
 use geometry::Disk;
 use geometry::SupportSet;
+use radius::Radius;
 
 #[repr(C)]
 pub struct RadiusAnswer {
@@ -29,13 +30,13 @@ fn no_radius(r: Refusal) -> RadiusAnswer
 fn radius_answer(d: Disk, t: SupportSet) -> RadiusAnswer
     ensures { λ r. ⌜ r ≡ radiusAnswer (radiusOf d (members t)) ⌝ }
 {
-    let radius = record::whole_radius(d, t);
+    let radius = radius::whole_radius(d, t);
     match radius {
-        record::Radius::Whole(r) => RadiusAnswer {
+        Radius::Whole(r) => RadiusAnswer {
             refusal: 0,
             radius: r,
         },
-        record::Radius::Refused(r) => no_radius(r),
+        Radius::Refused(r) => no_radius(r),
     }
 }
 

@@ -1,11 +1,12 @@
 // A record read, as C has the call.
 ghost use mathlib.Core.Path.{_≡_};
 ghost use Rattle.answers.specs.Outcome.{refused, numberOf};
-ghost use Rattle.record.specs.Reading.{readOf};
+ghost use Rattle.record_reader.specs.Reading.{readOf};
 ghost use Rattle.c_read.specs.Answer.{recordAnswer};
 use answers::Refusal;
 use c_types::Support;
 use geometry::Disk;
+use record_reader::Record;
 
 #[repr(C)]
 pub struct RecordAnswer {
@@ -27,13 +28,13 @@ fn no_record(r: Refusal) -> RecordAnswer
 pub fn read_record(bytes: &[u8]) -> RecordAnswer
     ensures { λ r. ⌜ r ≡ recordAnswer (readOf (now (bytes .entry))) ⌝ }
 {
-    let record = record::read_record(bytes);
+    let record = record_reader::read_record(bytes);
     match record {
-        record::Record::Read(d, t) => RecordAnswer {
+        Record::Read(d, t) => RecordAnswer {
             refusal: 0,
             disk: d,
             support: c_types::support_of(t),
         },
-        record::Record::Refused(r) => no_record(r),
+        Record::Refused(r) => no_record(r),
     }
 }

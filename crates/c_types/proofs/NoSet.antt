@@ -8,7 +8,7 @@ use mathlib.Core.List.{[]}
 use Prim.Native.Nat.{ℕ, zero, suc}
 use Rattle.geometry.specs.declared.Point.{Point}
 use Rattle.geometry.specs.declared.Disk.{Disk}
-use Rattle.record.specs.Valid.{valid, validDisk, validPoints}
+use Rattle.validity.specs.Valid.{valid, validDisk, validPoints}
 use Rattle.c_types.specs.Support.{counted}
 
 pub other-size : (n : ℕ) (a b c : Point) → (n ≡ 1 → ⊥) → (n ≡ 2 → ⊥) → (n ≡ 3 → ⊥) → [] ≡ counted n a b c

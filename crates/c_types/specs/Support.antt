@@ -5,7 +5,7 @@
 --   pointsOf t     == the first `size` points of t; none where the size is not 1, 2 or 3
 --   setPoints g    == the points of a support set that is given, or none
 --
--- No record holds a set of no points (record/specs/Valid: `oneToThree`), so a size that no set has is refused with 7.
+-- No record holds a set of no points (validity/specs/Valid: `oneToThree`), so a size that no set has is refused with 7.
 use mathlib.Core.List.{List, [], _∷_}
 use Prim.Native.Nat.{ℕ, zero, suc}
 use lib.IntN.{pos}

@@ -20,11 +20,11 @@ use Rattle.sheet.specs.Sheet.{count, directoryEnd, pair, glyphOf}
 use Rattle.engine.specs.Engine.{enclosure, encloseOf}
 use Rattle.engine.proofs.Checks.{accepted, list-refused, even-length, some-length}
 use Rattle.engine.proofs.Accepted.{accepted-list}
-use Rattle.record.specs.Bytes.{recordLength}
-use Rattle.record.specs.Valid.{valid}
-use Rattle.record.specs.Radius.{wholeRadius, radiusOf}
-use Rattle.record.specs.Writing.{writeOf, leftBy}
-use Rattle.record.specs.Reading.{diskIn, pointsIn, readOf}
+use Rattle.record_writer.specs.Layout.{recordLength}
+use Rattle.validity.specs.Valid.{valid}
+use Rattle.radius.specs.Radius.{wholeRadius, radiusOf}
+use Rattle.record_writer.specs.Writing.{writeOf, leftBy}
+use Rattle.record_reader.specs.Reading.{diskIn, pointsIn, readOf}
 use Rattle.preview.specs.Preview.{floats, previewOf}
 use Rattle.claims.specs.Demand1.{Taken, LoaderRules, SheetRules, EngineRules, RecordRules, Demand1}
 use Rattle.claims.proofs.Lines.{lines-taken, faultless}

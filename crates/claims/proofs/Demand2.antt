@@ -15,8 +15,8 @@ use Rattle.disks.proofs.Answer.{limits}
 use Rattle.disks.proofs.First.{first-support, first-unique}
 use Rattle.engine.specs.Engine.{Enclosure, enclosure, encloseOf}
 use Rattle.engine.proofs.Accepted.{accepted-list, has-point}
-use Rattle.record.specs.Reading.{readOf}
-use Rattle.record.proofs.RoundTrip.{read-written, written-again}
+use Rattle.record_reader.specs.Reading.{readOf}
+use Rattle.record_reader.proofs.RoundTrip.{read-written, written-again}
 use Rattle.claims.proofs.Records.{written, written-valid, filled}
 use Rattle.claims.specs.Demand2.{EngineIsRight, RecordsGoRound, Demand2}
 

@@ -31,11 +31,12 @@ use Rattle.description.proofs.Accepted.{load-same, accepted-room}
 use Rattle.engine.specs.Engine.{Enclosure, enclosure, encloseOf, listAfter}
 use Rattle.engine.proofs.Checks.{list-accepted}
 use Rattle.engine.proofs.Accepted.{Accepted, accepted-list, has-point}
-use Rattle.record.specs.Valid.{valid}
-use Rattle.record.specs.Bytes.{recordLength, recordBytes}
-use Rattle.record.specs.Radius.{wholeRadius, radiusOf}
-use Rattle.record.specs.Writing.{writeOf, bufferAfter}
-use Rattle.record.proofs.RoundTrip.{record-injective}
+use Rattle.validity.specs.Valid.{valid}
+use Rattle.record_writer.specs.Layout.{recordLength}
+use Rattle.record_writer.specs.Bytes.{recordBytes}
+use Rattle.radius.specs.Radius.{wholeRadius, radiusOf}
+use Rattle.record_writer.specs.Writing.{writeOf, bufferAfter}
+use Rattle.record_reader.proofs.RoundTrip.{record-injective}
 use Rattle.preview.specs.Preview.{floats, previewOf}
 use Rattle.letter.specs.Letter.{enclosureIn}
 use Rattle.letter.proofs.ValidAnswer.{valid-enclosure}

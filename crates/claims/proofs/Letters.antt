@@ -1,6 +1,6 @@
 -- The letters of document 01 hold (specs/Letters.antt), by computing.
 use mathlib.Core.Path.{refl}
-use Rattle.integers.specs.Gcd.{gcd, steps}
+use Rattle.integers.specs.Divisor.{gcd, steps}
 use Rattle.geometry.specs.EmBox.{allInBox, inBox, inEmBox, allInEmBox}
 use Rattle.geometry.specs.Plane.{holds}
 use Rattle.geometry.specs.Order.{before}
@@ -8,8 +8,8 @@ use Rattle.geometry.specs.Points.{points, flat}
 use Rattle.disks.specs.Procedure.{outside, lowestTerms, diameterDisk, turnedBy, circle, boundaryDisk, tested, step, through, run}
 use Rattle.disks.specs.Support.{insert, sorted, fronted, choose, sameDisk, supports, firstOf, firstSupport}
 use Rattle.engine.specs.Engine.{encloseOf, listAfter}
-use Rattle.record.specs.Least.{least, firstFrom}
-use Rattle.record.specs.Valid.{centreInEmBox, validDisk, rising, validPoints, valid}
+use Rattle.integers.specs.Least.{least, firstFrom}
+use Rattle.validity.specs.Valid.{centreInEmBox, validDisk, rising, validPoints, valid}
 use Rattle.claims.specs.Letters.{letters, AllHold}
 
 pub letters-hold : AllHold letters

@@ -13,13 +13,14 @@ use Rattle.answers.specs.Outcome.{Outcome, given}
 use Rattle.answers.proofs.OutcomeLaws.{not-refused}
 use Rattle.geometry.specs.declared.Point.{Point}
 use Rattle.geometry.specs.declared.Disk.{Disk}
-use Rattle.integers.specs.Between.{first}
+use Rattle.integers.proofs.Tests.{first}
 use Rattle.geometry.specs.EmBox.{allInEmBox}
-use Rattle.record.specs.Valid.{oneToThree, rising, validPoints, valid}
-use Rattle.record.specs.Bytes.{recordLength, recordBytes}
-use Rattle.record.specs.Writing.{writeOf, leftBy, bufferAfter}
-use Rattle.record.proofs.ByteLaws.{recordBytes-length}
-use Rattle.record.proofs.ValidLaws.{valid-points}
+use Rattle.validity.specs.Valid.{oneToThree, rising, validPoints, valid}
+use Rattle.record_writer.specs.Layout.{recordLength}
+use Rattle.record_writer.specs.Bytes.{recordBytes}
+use Rattle.record_writer.specs.Writing.{writeOf, leftBy, bufferAfter}
+use Rattle.record_writer.proofs.ByteLaws.{recordBytes-length}
+use Rattle.validity.proofs.ValidLaws.{valid-points}
 
 counted : (d : Disk) (ps : List Point) → valid d ps ≡ true → oneToThree ps ≡ true
 unfolding validPoints

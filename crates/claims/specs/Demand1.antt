@@ -26,11 +26,11 @@ use Rattle.description.specs.Description.{Line, fault, linesRead, named, loadOf
 use Rattle.sheet.specs.Sheet.{count, directoryEnd, pairs, follow, glyphOf}
 use Rattle.engine.specs.Engine.{encloseOf, listAfter}
 use Rattle.preview.specs.Preview.{previewOf}
-use Rattle.record.specs.Bytes.{recordLength}
-use Rattle.record.specs.Valid.{valid}
-use Rattle.record.specs.Radius.{radiusOf}
-use Rattle.record.specs.Writing.{writeOf, bufferAfter}
-use Rattle.record.specs.Reading.{diskIn, pointsIn, readOf}
+use Rattle.record_writer.specs.Layout.{recordLength}
+use Rattle.validity.specs.Valid.{valid}
+use Rattle.radius.specs.Radius.{radiusOf}
+use Rattle.record_writer.specs.Writing.{writeOf, bufferAfter}
+use Rattle.record_reader.specs.Reading.{diskIn, pointsIn, readOf}
 
 abbrev pub Taken : {A : Type 0} → Outcome A → Type 0
 Taken {A} o = (a : A) × (o ≡ given a)

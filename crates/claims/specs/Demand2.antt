@@ -18,17 +18,17 @@ use Rattle.geometry.specs.declared.Disk.{Disk}
 use Rattle.geometry.specs.Points.{points}
 use Rattle.disks.specs.Smallest.{Smallest}
 use Rattle.disks.specs.FirstSupport.{IsFirstSupport}
-use Rattle.disks.specs.Limits.{Limits}
+use Rattle.geometry.specs.EmBox.{WithinLimits}
 use Rattle.engine.specs.Engine.{Enclosure, encloseOf}
-use Rattle.record.specs.Bytes.{recordLength}
-use Rattle.record.specs.Writing.{writeOf, bufferAfter}
-use Rattle.record.specs.Reading.{readOf}
+use Rattle.record_writer.specs.Layout.{recordLength}
+use Rattle.record_writer.specs.Writing.{writeOf, bufferAfter}
+use Rattle.record_reader.specs.Reading.{readOf}
 
 -- of the answer e for the points P
 pub record EngineIsRight (P : List Point) (e : Enclosure) : Type 0 where
   pub smallest : Smallest P (e .disk)
   pub no-other-disk : (d : Disk) → Smallest P d → d ≡ e .disk
-  pub limits : Limits (e .disk)
+  pub limits : WithinLimits (e .disk)
   pub first-support : IsFirstSupport P (e .support)
   pub no-other-support : (S : List Point) → IsFirstSupport P S → S ≡ e .support
 

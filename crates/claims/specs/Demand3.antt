@@ -25,9 +25,9 @@ use Rattle.description.specs.Description.{loadOf, named}
 use Rattle.engine.specs.Engine.{Enclosure, encloseOf, listAfter}
 use Rattle.preview.specs.declared.Preview.{Preview}
 use Rattle.preview.specs.Preview.{previewOf}
-use Rattle.record.specs.Bytes.{recordLength}
-use Rattle.record.specs.Radius.{radiusOf}
-use Rattle.record.specs.Writing.{writeOf, bufferAfter}
+use Rattle.record_writer.specs.Layout.{recordLength}
+use Rattle.radius.specs.Radius.{radiusOf}
+use Rattle.record_writer.specs.Writing.{writeOf, bufferAfter}
 use Rattle.letter.specs.Letter.{enclosureIn}
 
 -- ---- the procedure

@@ -15,7 +15,7 @@ use Rattle.geometry.specs.declared.Disk.{Disk}
 use Rattle.geometry.specs.Points.{points, flat}
 use Rattle.disks.specs.Procedure.{testsOf}
 use Rattle.engine.specs.Engine.{encloseOf, listAfter}
-use Rattle.record.specs.Radius.{radiusOf}
+use Rattle.radius.specs.Radius.{radiusOf}
 
 pub record Letter : Type 0 where
   pub list : List Point

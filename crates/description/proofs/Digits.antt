@@ -18,7 +18,7 @@ use lib.Dec.{leb}
 use lib.IntN.{pos, negℤ}
 use lib.ListN.{length, drop}
 use borrow.Author.Tests.{le-leb, lt-leb, eqb-true}
-use Rattle.integers.specs.Between.{stop}
+use Rattle.integers.proofs.Tests.{stop}
 use Rattle.description.specs.Description.{isDigit, allDigits, decimal, someIf, digits, numeral}
 use Rattle.description.specs.Scan.{isByte, endsWord, upTo, starts, word}
 

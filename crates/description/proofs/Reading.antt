@@ -16,7 +16,7 @@ use lib.Dec.{leb}
 use lib.IntN.{ℤ, pos, negℤ}
 use lib.ListN.{length, getD, drop}
 use borrow.Author.Tests.{leb-true, ne-eqb, eqb-true}
-use Rattle.integers.specs.Between.{first, rest}
+use Rattle.integers.proofs.Tests.{first, rest}
 use Rattle.description.specs.declared.Natural.the-variants as Natural
 use Rattle.description.specs.declared.Number.the-variants as Number
 use Rattle.description.specs.Description.{isDigit, digits, numeral}

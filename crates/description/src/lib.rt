@@ -8,8 +8,7 @@ ghost use lib.IntN.{pos, negℤ};
 ghost use lib.ListN.{length, drop, set};
 ghost use lib.Seq.{paste};
 ghost use Rattle.description.specs.Description.{isDigit, linesRead, named, byLine, loadOf, listAfter, outcome};
-ghost use Rattle.description.specs.Scan.{isByte, isFeed, endsWord, afterSpaces, starts, ends, Reaches};
-ghost use Rattle.description.specs.Scan.{NaturalAt, NumberAt, LineAt, StepAt, Kept};
+ghost use Rattle.description.specs.Scan.{isByte, isFeed, endsWord, afterSpaces, starts, ends, Reaches, NaturalAt, NumberAt, LineAt, StepAt, Kept};
 
 pub enum Loaded {
     // How many points were loaded.

@@ -11,8 +11,8 @@ use mathlib.Core.Logic.{_⊎_, inl, inr}
 use mathlib.Core.List.{[], _∷_, List·Memᴰ·head, List·Memᴰ·tail, List·Permᴰ, List·Permᴰ·cons, List·Permᴰ·swap, List·Permᴰ·trans}
 use lib.IntN.{ℤ, pos, negsuc, negℤ, _+ℤ_, _-ℤ_, _*ℤ_}
 use lib.Signed.{_≤ℤ_, _<ℤ_}
-use Rattle.integers.specs.Ring.{ring, poly, linear, eqn, _&_}
-use Rattle.integers.specs.Order.{≤-of-eq, ≤-of-<, ≤-or-<, nonneg, positive, clash, le, lt, eq, sq, nn, _⊞_, _⊠_, <-≤-clash, *-pos, Compared, less, same, more, compared, sum-squares-zero}
+use Rattle.integers.proofs.Ring.{ring, poly, linear, eqn, _&_}
+use Rattle.integers.proofs.Order.{≤-of-eq, ≤-of-<, ≤-or-<, nonneg, positive, clash, le, lt, eq, sq, nn, _⊞_, _⊠_, <-≤-clash, *-pos, Compared, less, same, more, compared, sum-squares-zero}
 use Rattle.geometry.specs.declared.Point.{Point}
 use Rattle.disks.proofs.Lifted.{Lifted, value, squaredRadius}
 use Rattle.disks.proofs.Minimal.{none-of, also, StronglyMinimal, strong-same, held}

@@ -12,16 +12,15 @@ use Prim.Native.Nat.{ℕ}
 use lib.Dec.{T}
 use lib.IntN.{ℤ, pos, negsuc, negℤ, _+ℤ_, _-ℤ_, _*ℤ_}
 use lib.Signed.{_≤ℤ_, _<ℤ_}
-use Rattle.integers.specs.Between.{test-true}
-use Rattle.integers.specs.Ring.{poly}
-use Rattle.integers.specs.Order.{*-pos, le-pos, nonneg, nonneg-by, positive, lt, le, eq, nn, _⊞_, _⊠_}
+use Rattle.integers.proofs.Tests.{test-true}
+use Rattle.integers.proofs.Ring.{poly}
+use Rattle.integers.proofs.Order.{*-pos, le-pos, nonneg, nonneg-by, positive, lt, le, eq, nn, _⊞_, _⊠_}
 use Rattle.geometry.specs.declared.Point.{Point}
 use Rattle.geometry.specs.declared.Limits.{Limits}
-use Rattle.geometry.specs.EmBox.{em, inBox}
+use Rattle.geometry.specs.EmBox.{em, inBox, WithinLimits}
 use Rattle.geometry.proofs.EmBox.{inside}
 use Rattle.disks.specs.Smallest.{In}
 use Rattle.disks.specs.Procedure.{diskOf}
-use Rattle.disks.specs.Limits.{WithinLimits}
 use Rattle.disks.proofs.Lifted.{Lifted, squaredRadius}
 use Rattle.disks.proofs.Minimal.{none-of}
 use Rattle.disks.proofs.Limits.{Box, BoxLimits, box-limits}

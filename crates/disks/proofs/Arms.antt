@@ -9,10 +9,10 @@ use mathlib.Core.Logic.{_⊎_, inl, inr}
 use mathlib.Core.List.{[], _∷_}
 use lib.IntN.{ℤ, pos, negsuc, negℤ, _+ℤ_, _-ℤ_, _*ℤ_}
 use lib.Signed.{_≤ℤ_, _<ℤ_}
-use Rattle.integers.specs.Laws.{eq-of-sub}
-use Rattle.integers.specs.Abs.{zero-product}
-use Rattle.integers.specs.Ring.{ring, poly, linear, eqn, _&_}
-use Rattle.integers.specs.Order.{≤-of-<, ≤-antisym, ≤-or-<, positive, clash, le, lt, eq, nn, _⊞_, _⊠_, sum-squares-zero}
+use Rattle.integers.proofs.Laws.{eq-of-sub}
+use Rattle.integers.proofs.Abs.{zero-product}
+use Rattle.integers.proofs.Ring.{ring, poly, linear, eqn, _&_}
+use Rattle.integers.proofs.Order.{≤-of-<, ≤-antisym, ≤-or-<, positive, clash, le, lt, eq, nn, _⊞_, _⊠_, sum-squares-zero}
 use Rattle.geometry.specs.declared.Point.{Point}
 use Rattle.disks.proofs.Base.{point-path}
 

@@ -10,8 +10,8 @@ use mathlib.Core.Logic.{_≢_}
 use mathlib.Core.List.{[], _∷_, List·Memᴰ·head, List·Memᴰ·tail}
 use lib.IntN.{ℤ, pos, negℤ, _+ℤ_, _-ℤ_, _*ℤ_}
 use lib.Signed.{_≤ℤ_, _<ℤ_}
-use Rattle.integers.specs.Ring.{ring, poly, linear, eqn, _&_}
-use Rattle.integers.specs.Order.{≤-of-eq, ≤-of-<, positive, nonneg-by, le, eq, nn, _⊞_, _⊠_, <-≤-clash, ≡-cancel, lt}
+use Rattle.integers.proofs.Ring.{ring, poly, linear, eqn, _&_}
+use Rattle.integers.proofs.Order.{≤-of-eq, ≤-of-<, positive, nonneg-by, le, eq, nn, _⊞_, _⊠_, <-≤-clash, ≡-cancel, lt}
 use Rattle.geometry.specs.declared.Point.{Point}
 use Rattle.disks.proofs.Lifted.{Lifted, value, gap}
 use Rattle.disks.proofs.Minimal.{none-of, also, StronglyMinimal}

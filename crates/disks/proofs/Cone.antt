@@ -9,9 +9,9 @@ use mathlib.Core.Logic.{_⊎_, inl, inr}
 use mathlib.Core.List.{List, [], _∷_, List·Memᴰ·head, List·Memᴰ·tail, List·Memᴰ·not-nil}
 use lib.IntN.{ℤ, pos, negsuc, negℤ, _+ℤ_, _*ℤ_}
 use lib.Signed.{_≤ℤ_, _<ℤ_}
-use Rattle.integers.specs.Laws.{+-comm}
-use Rattle.integers.specs.Ring.{poly}
-use Rattle.integers.specs.Order.{≤-of-eq, ≤-of-<, ≤-or-<, positive, clash, le, lt, eq, nn, _⊞_, _⊠_, <-≤-clash, Compared, less, same, more, compared}
+use Rattle.integers.proofs.Laws.{+-comm}
+use Rattle.integers.proofs.Ring.{poly}
+use Rattle.integers.proofs.Order.{≤-of-eq, ≤-of-<, ≤-or-<, positive, clash, le, lt, eq, nn, _⊞_, _⊠_, <-≤-clash, Compared, less, same, more, compared}
 use Rattle.geometry.specs.declared.Point.{Point}
 use Rattle.disks.proofs.Minimal.{In, also}
 use Rattle.disks.proofs.Arms.{dot, cross, Opposite, cone-product, exchange-l, exchange-r, back-r, back-l, dot-comm, cross-self, parallel, sign-between, sign-front, wide-arms, both-zero, flip}

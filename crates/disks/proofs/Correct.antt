@@ -16,8 +16,8 @@ use lib.IntN.{ℤ, pos, negℤ, _+ℤ_, _-ℤ_, _*ℤ_}
 use lib.Dec.{T}
 use lib.ListN.{length, length-append}
 use lib.Signed.{_≤ℤ_, _<ℤ_, ltZ, ltZ-no}
-use Rattle.integers.specs.Ring.{poly}
-use Rattle.integers.specs.Order.{≤-of-eq, ≤-trans, nonneg, nn, sq, le, _⊞_, <-≤-clash}
+use Rattle.integers.proofs.Ring.{poly}
+use Rattle.integers.proofs.Order.{≤-of-eq, ≤-trans, nonneg, nn, sq, le, _⊞_, <-≤-clash}
 use Rattle.geometry.specs.declared.Point.{Point}
 use Rattle.disks.proofs.Lifted.{Lifted, value, noDisk, value-none}
 use Rattle.disks.proofs.Minimal.{In, Feasible, StronglyMinimal, Below, Same, same-sym, feasible-same, strong-same, strong-below, none-below, through, to-boundary, step, held}

@@ -16,12 +16,12 @@ use Prim.Native.Nat.{ℕ, suc, _≤_}
 use native.Mathlib.Omega.{arith}
 use lib.Dec.{T, eqb, eqb→eq, eqb-refl}
 use lib.ListN.{length}
-use Rattle.integers.specs.Bounds.{and-left, and-right}
+use Rattle.integers.proofs.Tests.{and-left, and-right}
 use Rattle.geometry.specs.declared.Point.{Point}
 use Rattle.geometry.specs.declared.Disk.{Disk}
 use Rattle.disks.specs.Smallest.{In, Same, Smallest}
 use Rattle.disks.specs.Procedure.{diskOf}
-use Rattle.geometry.specs.Order.{eqZ}
+use Rattle.integers.specs.Order.{eqZ}
 use Rattle.disks.specs.Support.{sorted, choose, sameDisk, supports, firstOf, firstSupport}
 pub use Rattle.disks.specs.Support.{candidates}
 use Rattle.disks.specs.FirstSupport.{Rising, IsSupport, Lexical, here, there, Earlier, fewer, lexical, IsFirstSupport}
@@ -33,7 +33,8 @@ use Rattle.disks.proofs.Bridge.{strong-written, diskOf-lowered}
 use Rattle.disks.proofs.StrongSmallest.{strong-smallest}
 use Rattle.disks.proofs.OneWriting.{smallest-same}
 use Rattle.disks.proofs.Welzl.{smallest}
-use Rattle.disks.proofs.Rising.{both, eqZ-eq, eq-eqZ, before-trans, before-not-equal, sorted-rises, sorted-same, sorted-length}
+use Rattle.disks.proofs.Rising.{both, before-trans, before-not-equal, sorted-rises, sorted-same, sorted-length}
+use Rattle.integers.proofs.Order.{eqZ-eq, eq-eqZ}
 use Rattle.disks.proofs.Choose.{Among, choose-length, choose-in, choose-rises, choose-all, Later, later-append, choose-lexical}
 
 -- ---- the order of sets

@@ -11,7 +11,7 @@
 use mathlib.Core.Path.{_≡_}
 use mathlib.Core.List.{[], _∷_}
 use lib.IntN.{ℤ, pos, negℤ, _+ℤ_, _-ℤ_, _*ℤ_}
-use Rattle.integers.specs.Ring.{ring, poly}
+use Rattle.integers.proofs.Ring.{ring, poly}
 use Rattle.geometry.specs.declared.Point.{Point}
 
 pub record Lifted : Type 0 where

@@ -12,8 +12,8 @@ use mathlib.Core.List.{List, [], _∷_, List·Memᴰ·not-nil}
 use native.Mathlib.Omega.{arith}
 use lib.IntN.{ℤ, pos, negsuc, negℤ, _+ℤ_, _-ℤ_, _*ℤ_}
 use lib.Signed.{_≤ℤ_, _<ℤ_, ltZ}
-use Rattle.integers.specs.Ring.{ring, poly}
-use Rattle.integers.specs.Order.{≤-of-<, ≤-or-<, nonneg, positive, clash, le, lt, sq, nn, _⊞_, _⊠_}
+use Rattle.integers.proofs.Ring.{ring, poly}
+use Rattle.integers.proofs.Order.{≤-of-<, ≤-or-<, nonneg, positive, clash, le, lt, sq, nn, _⊞_, _⊠_}
 use Rattle.geometry.specs.declared.Point.{Point}
 use Rattle.disks.proofs.Lifted.{Lifted, value, gap, combine, value-combine, gap-combine, gap-self, squaredRadius}
 use Rattle.disks.proofs.Minimal.{In, Feasible, StronglyMinimal}

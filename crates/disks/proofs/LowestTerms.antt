@@ -10,11 +10,12 @@ use Prim.Native.Nat.{ℕ, _*_, _/_, _≤_, _∣_}
 use native.Mathlib.Nat.{mul-le-mul, mul-div-cancel', mul-div-cancel-left}
 use lib.IntN.{ℤ, pos, negsuc, negℤ, natAbs, _+ℤ_, _-ℤ_, _*ℤ_}
 use lib.Signed.{_<ℤ_, quotZ}
-use Rattle.integers.specs.Laws.{*-comm}
-use Rattle.integers.specs.LowestTerms.{common, lowest, Reduced, common-pos, divides-x, divides-y, divides-e, lowest-reduced, quot-exact}
+use Rattle.integers.proofs.Laws.{*-comm}
+use Rattle.integers.specs.Divisor.{common, lowest, Reduced}
+use Rattle.integers.proofs.LowestTerms.{common-pos, divides-x, divides-y, divides-e, lowest-reduced, quot-exact}
 use Rattle.integers.specs.declared.Triple.{Triple}
-use Rattle.integers.specs.Ring.{ring, poly, linear, eqn, _&_}
-use Rattle.integers.specs.Order.{nn-is, pos-le, le-pos, <-to-≤, ≤-to-<, *-pos, sq, _⊞_}
+use Rattle.integers.proofs.Ring.{ring, poly, linear, eqn, _&_}
+use Rattle.integers.proofs.Order.{nn-is, pos-le, le-pos, <-to-≤, ≤-to-<, *-pos, sq, _⊞_}
 use Rattle.geometry.specs.declared.Point.{Point}
 use Rattle.geometry.specs.declared.Disk.{Disk}
 use Rattle.geometry.specs.Plane.{distance}

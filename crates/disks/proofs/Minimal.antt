@@ -14,8 +14,8 @@ use mathlib.Core.Logic.{_⊎_, inl, inr}
 use mathlib.Core.List.{List, [], _∷_, List·Memᴰ·head, List·Memᴰ·tail, List·Memᴰ·cases-cons, List·Memᴰ·not-nil}
 use lib.IntN.{ℤ, pos, negsuc, negℤ, _+ℤ_, _*ℤ_}
 use lib.Signed.{_≤ℤ_, _<ℤ_}
-use Rattle.integers.specs.Ring.{ring, poly}
-use Rattle.integers.specs.Order.{≤-of-eq, ≤-of-<, nonneg, positive, nonneg-by, le, lt, eq, sq, nn, _⊞_, _⊠_}
+use Rattle.integers.proofs.Ring.{ring, poly}
+use Rattle.integers.proofs.Order.{≤-of-eq, ≤-of-<, nonneg, positive, nonneg-by, le, lt, eq, sq, nn, _⊞_, _⊠_}
 use Rattle.geometry.specs.declared.Point.{Point}
 pub use Rattle.disks.specs.Smallest.{In, Same}
 use Rattle.disks.proofs.Lifted.{Lifted, value, gap, combine, noDisk, apart-x, apart-y, value-combine, gap-combine, gap-both, gap-none}

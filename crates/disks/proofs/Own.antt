@@ -9,8 +9,8 @@ use mathlib.Core.Logic.{_↔_}
 use mathlib.Core.List.{List, [], _∷_, List·Memᴰ·head}
 use lib.IntN.{ℤ, pos, negsuc, negℤ, _+ℤ_, _-ℤ_, _*ℤ_}
 use lib.Signed.{_≤ℤ_, _<ℤ_}
-use Rattle.integers.specs.Ring.{poly, linear, eqn, _&_}
-use Rattle.integers.specs.Order.{≡-cancel, ≤-of-eq, nonneg, le}
+use Rattle.integers.proofs.Ring.{poly, linear, eqn, _&_}
+use Rattle.integers.proofs.Order.{≡-cancel, ≤-of-eq, nonneg, le}
 use Rattle.geometry.specs.declared.Point.{Point}
 use Rattle.geometry.specs.declared.Disk.{Disk}
 use Rattle.disks.specs.Smallest.{Smallest}

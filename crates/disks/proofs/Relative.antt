@@ -8,7 +8,7 @@
 use mathlib.Core.Path.{_≡_, refl, _∙_}
 use mathlib.Core.List.{[], _∷_}
 use lib.IntN.{ℤ, pos, _+ℤ_, _-ℤ_, _*ℤ_}
-use Rattle.integers.specs.Ring.{ring, poly}
+use Rattle.integers.proofs.Ring.{ring, poly}
 use Rattle.geometry.specs.declared.Point.{Point}
 use Rattle.disks.proofs.Lifted.{Lifted, value, squaredRadius}
 use Rattle.disks.proofs.Base.{pointDisk, pairDisk}

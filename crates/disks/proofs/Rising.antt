@@ -17,11 +17,12 @@ use lib.IntN.{ℤ}
 use lib.ListN.{length}
 use lib.Dec.{T}
 use lib.Signed.{_<ℤ_, ltZ, leZ}
-use Rattle.integers.specs.Bounds.{and-left, and-right}
-use Rattle.integers.specs.Order as O
-use Rattle.integers.specs.Order.{≤-of-eq, ≤-antisym, ≤-refl, <-trans, <-≤-clash, <-≤-trans, ≤-<-trans}
+use Rattle.integers.proofs.Tests.{and-left, and-right}
+use Rattle.integers.proofs.Order as O
+use Rattle.integers.proofs.Order.{≤-of-eq, ≤-antisym, ≤-refl, <-trans, <-≤-clash, <-≤-trans, ≤-<-trans}
 use Rattle.geometry.specs.declared.Point.{Point}
-use Rattle.geometry.specs.Order.{before, eqZ}
+use Rattle.geometry.specs.Order.{before}
+use Rattle.integers.specs.Order.{eqZ}
 use Rattle.disks.specs.Support.{insert, sorted}
 pub use Rattle.disks.specs.FirstSupport.{Rising}
 use Rattle.disks.proofs.Base.{point-path}

@@ -10,8 +10,8 @@ use mathlib.Core.List.{[], _∷_}
 use lib.IntN.{ℤ, pos, negsuc, _+ℤ_, _-ℤ_, _*ℤ_}
 use lib.Dec.{T}
 use lib.Signed.{_<ℤ_, ltZ}
-use Rattle.integers.specs.Ring.{ring, poly}
-use Rattle.integers.specs.Order.{positive, lt, eq, _⊞_, _⊠_, <-cancel}
+use Rattle.integers.proofs.Ring.{ring, poly}
+use Rattle.integers.proofs.Order.{positive, lt, eq, _⊞_, _⊠_, <-cancel}
 use Rattle.geometry.specs.declared.Point.{Point}
 use Rattle.disks.proofs.Lifted.{Lifted, value, squaredRadius, noDisk, value-none}
 use Rattle.disks.proofs.Base.{difference-positive}

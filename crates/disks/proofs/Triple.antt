@@ -12,10 +12,10 @@ use mathlib.Core.List.{List, [], _∷_, List·Memᴰ·head, List·Memᴰ·tail}
 use lib.IntN.{ℤ, pos, negsuc, negℤ, _+ℤ_, _-ℤ_, _*ℤ_}
 use lib.Dec.{T}
 use lib.Signed.{_≤ℤ_, _<ℤ_, ltZ, ltZ-no}
-use Rattle.integers.specs.Laws.{eq-of-sub}
-use Rattle.integers.specs.Abs.{zero-product}
-use Rattle.integers.specs.Ring.{ring, poly, linear, eqn, _&_}
-use Rattle.integers.specs.Order.{≤-of-eq, positive, lt, nn, <-≤-clash, Compared, less, same, more, compared, sum-squares-zero}
+use Rattle.integers.proofs.Laws.{eq-of-sub}
+use Rattle.integers.proofs.Abs.{zero-product}
+use Rattle.integers.proofs.Ring.{ring, poly, linear, eqn, _&_}
+use Rattle.integers.proofs.Order.{≤-of-eq, positive, lt, nn, <-≤-clash, Compared, less, same, more, compared, sum-squares-zero}
 use Rattle.geometry.specs.declared.Point.{Point}
 pub use Rattle.disks.specs.Smallest.{Different}
 use Rattle.disks.proofs.Lifted.{Lifted, value}

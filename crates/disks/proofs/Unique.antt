@@ -7,9 +7,9 @@ use mathlib.Core.Path.{_≡_, sym, _∙_, ap, subst}
 use mathlib.Core.List.{List, [], _∷_, List·Memᴰ·tail, List·Memᴰ·not-nil}
 use lib.IntN.{ℤ, pos, negsuc, negℤ, _+ℤ_, _-ℤ_, _*ℤ_}
 use lib.Signed.{_≤ℤ_, _<ℤ_}
-use Rattle.integers.specs.Laws.{eq-of-sub}
-use Rattle.integers.specs.Ring.{ring, poly, linear, eqn, _&_}
-use Rattle.integers.specs.Order.{≤-of-<, ≤-antisym, nonneg, positive, nonneg-by, le, lt, eq, sq, nn, _⊞_, _⊠_, sum-squares-zero, ≡-cancel}
+use Rattle.integers.proofs.Laws.{eq-of-sub}
+use Rattle.integers.proofs.Ring.{ring, poly, linear, eqn, _&_}
+use Rattle.integers.proofs.Order.{≤-of-<, ≤-antisym, nonneg, positive, nonneg-by, le, lt, eq, sq, nn, _⊞_, _⊠_, sum-squares-zero, ≡-cancel}
 use Rattle.geometry.specs.declared.Point.{Point}
 use Rattle.disks.proofs.Lifted.{Lifted, value, gap, combine, apart-x, apart-y, gap-both, gap-self, value-combine, gap-combine}
 use Rattle.disks.proofs.Minimal.{also, Feasible, StronglyMinimal}

@@ -9,8 +9,8 @@ use mathlib.Core.List.{List, [], _∷_, _++_, List·Memᴰ·head, List·Memᴰ·
 use Prim.Native.Nat.{ℕ, zero, suc}
 use lib.IntN.{ℤ, pos, _*ℤ_}
 use lib.Signed.{_≤ℤ_, _<ℤ_}
-use Rattle.integers.specs.Ring.{poly}
-use Rattle.integers.specs.Order.{≤-of-<, nonneg, lt, nn, _⊞_, _⊠_}
+use Rattle.integers.proofs.Ring.{poly}
+use Rattle.integers.proofs.Order.{≤-of-<, nonneg, lt, nn, _⊞_, _⊠_}
 use Rattle.geometry.specs.declared.Point.{Point}
 use Rattle.disks.proofs.Minimal.{In, none-of, also}
 use Rattle.disks.proofs.Limits.{Box, triple-weight}

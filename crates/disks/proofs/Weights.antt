@@ -11,8 +11,8 @@ use mathlib.Core.Logic.{_⊎_, inl, inr}
 use mathlib.Core.List.{List, [], _∷_, List·Memᴰ·head, List·Memᴰ·tail, List·Memᴰ·cases-cons, List·Memᴰ·not-nil}
 use lib.IntN.{ℤ, pos, negsuc, negℤ, _+ℤ_, _-ℤ_, _*ℤ_}
 use lib.Signed.{_≤ℤ_, _<ℤ_}
-use Rattle.integers.specs.Ring.{ring, poly, linear, eqn}
-use Rattle.integers.specs.Order.{≤-of-eq, ≤-of-<, nonneg, positive, nonneg-by, clash, le, lt, eq, sq, nn, _⊞_, _⊠_, <-≤-clash, Compared, less, same, more, compared}
+use Rattle.integers.proofs.Ring.{ring, poly, linear, eqn}
+use Rattle.integers.proofs.Order.{≤-of-eq, ≤-of-<, nonneg, positive, nonneg-by, clash, le, lt, eq, sq, nn, _⊞_, _⊠_, <-≤-clash, Compared, less, same, more, compared}
 use Rattle.geometry.specs.declared.Point.{Point}
 use Rattle.disks.proofs.Lifted.{Lifted, value, squaredRadius, gap, combine, apart-x, apart-y, value-combine, gap-combine, gap-self}
 use Rattle.disks.proofs.Minimal.{In, none-of, also, Feasible, StronglyMinimal}

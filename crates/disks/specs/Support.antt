@@ -12,7 +12,8 @@ use Prim.Native.Nat.{ℕ, zero, suc}
 use lib.Dec.{eqb}
 use Rattle.geometry.specs.declared.Point.{Point}
 use Rattle.geometry.specs.declared.Disk.{Disk}
-use Rattle.geometry.specs.Order.{eqZ, before}
+use Rattle.integers.specs.Order.{eqZ}
+use Rattle.geometry.specs.Order.{before}
 use Rattle.disks.specs.Procedure.{diskOf}
 
 -- p in its place in a rising list; one that is there already is not put in again

@@ -2,6 +2,7 @@
 --
 --   Inside l p   == p lies in the box, by its four inequalities
 --   inside       : so it does where the test says so
+--   left-size, right-size, foot-size, top-size : no limit of the box is larger, in size, than the largest
 --   point-size   : no coordinate of a point in the box is larger, in size, than the largest
 --   box-members  : each point of a list that is in the em box is
 --   members-box  : a list whose points all are is
@@ -9,12 +10,13 @@ use mathlib.Core.Path.{_≡_, refl, sym, subst}
 use mathlib.Core.Logic.{_⊎_, inl, inr}
 use mathlib.Core.Bool.{true}
 use mathlib.Core.List.{List, [], _∷_, List·Memᴰ, List·Memᴰ·head, List·Memᴰ·tail, List·Memᴰ·cases-cons, List·Memᴰ·not-nil}
-use Prim.Native.Nat.{max, _≤_}
+use Prim.Native.Nat.{ℕ, max, _≤_}
 use native.Mathlib.Nat.{le-trans, le-max-left, le-max-right}
 use lib.Dec.{T}
 use lib.IntN.{natAbs}
 use lib.Signed.{_≤ℤ_}
-use Rattle.integers.specs.Between.{between, first, rest, pass, test-true, true-test, between-most, between-low, between-high}
+use Rattle.integers.specs.Order.{between}
+use Rattle.integers.proofs.Tests.{first, rest, pass, test-true, true-test, between-most, between-low, between-high}
 use Rattle.geometry.specs.declared.Point.{Point}
 use Rattle.geometry.specs.declared.Limits.{Limits}
 use Rattle.geometry.specs.EmBox.{inBox, allInBox, inEmBox, allInEmBox, largest}
@@ -24,6 +26,25 @@ pub record Inside (l : Limits) (p : Point) : Type 0 where
   pub to-right : p .x ≤ℤ l .right
   pub from-foot : l .foot ≤ℤ p .y
   pub to-top : p .y ≤ℤ l .top
+
+module _ (l : Limits) where
+  abbrev across : ℕ
+  across = max (natAbs (l .left)) (natAbs (l .right))
+
+  abbrev along : ℕ
+  along = max (natAbs (l .foot)) (natAbs (l .top))
+
+  pub left-size : natAbs (l .left) ≤ largest l
+  left-size = le-trans (le-max-left (natAbs (l .left)) (natAbs (l .right))) (le-max-left across along)
+
+  pub right-size : natAbs (l .right) ≤ largest l
+  right-size = le-trans (le-max-right (natAbs (l .left)) (natAbs (l .right))) (le-max-left across along)
+
+  pub foot-size : natAbs (l .foot) ≤ largest l
+  foot-size = le-trans (le-max-left (natAbs (l .foot)) (natAbs (l .top))) (le-max-right across along)
+
+  pub top-size : natAbs (l .top) ≤ largest l
+  top-size = le-trans (le-max-right (natAbs (l .foot)) (natAbs (l .top))) (le-max-right across along)
 
 module _ (l : Limits) (p : Point) (h : inBox l p ≡ true) where
   in-x : between (l .left) (p .x) (l .right) ≡ true
@@ -43,16 +64,7 @@ module _ (l : Limits) (p : Point) (h : inBox l p ≡ true) where
   }
 
   pub point-size : (natAbs (p .x) ≤ largest l) × (natAbs (p .y) ≤ largest l)
-  point-size =
-      let wide = max (natAbs (l .left)) (natAbs (l .right)) in
-      let high = max (natAbs (l .foot)) (natAbs (l .top)) in
-      let sides = le-max-left wide high in
-      let heights = le-max-right wide high in (
-        between-most (l .left) (p .x) (l .right) (le-trans (le-max-left (natAbs (l .left)) (natAbs (l .right))) sides)
-            (le-trans (le-max-right (natAbs (l .left)) (natAbs (l .right))) sides) in-x,
-        between-most (l .foot) (p .y) (l .top) (le-trans (le-max-left (natAbs (l .foot)) (natAbs (l .top))) heights)
-            (le-trans (le-max-right (natAbs (l .foot)) (natAbs (l .top))) heights) in-y,
-      )
+  point-size = (between-most (l .left) (p .x) (l .right) (left-size l) (right-size l) in-x, between-most (l .foot) (p .y) (l .top) (foot-size l) (top-size l) in-y)
 
 pub box-members : (P : List Point) → allInEmBox P ≡ true → (p : Point) → List·Memᴰ p P → T (inEmBox p)
 unfolding allInBox

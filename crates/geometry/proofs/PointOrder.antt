@@ -9,9 +9,10 @@ use native.Mathlib.Omega.{arith}
 use borrow.Author.Tests.{le-ltb, ltb-true}
 use lib.IntN.{ℤ, pos, negsuc}
 use lib.Signed.{ltZ, leZ}
-use Rattle.integers.specs.Between.{below, not-below}
+use Rattle.integers.proofs.Tests.{below, not-below}
 use Rattle.geometry.specs.declared.Point.{Point}
-use Rattle.geometry.specs.Order.{eqZ, before}
+use Rattle.integers.specs.Order.{eqZ}
+use Rattle.geometry.specs.Order.{before}
 
 pub before-left : (p q : Point) → ltZ (p .x) (q .x) ≡ true → true ≡ before p q
 unfolding before

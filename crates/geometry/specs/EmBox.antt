@@ -4,13 +4,15 @@
 --   inBox l p        == p lies in the box of the limits l
 --   allInBox l ps    == every point of ps does
 --   inEmBox, allInEmBox == the same for the em box
+--   WithinLimits l d == the disk d keeps to the limits l: E, S/E², and the centre in the box
 --   largest l        == how large a coordinate in the box can be, in size: what inner contracts ask of numbers
 use mathlib.Core.Bool.{Bool, true, _&&_}
 use mathlib.Core.List.{List, [], _∷_}
-use Prim.Native.Nat.{ℕ, max}
-use lib.IntN.{pos, negsuc, natAbs}
-use Rattle.integers.specs.Between.{between}
+use Prim.Native.Nat.{ℕ, _*_, _≤_, max}
+use lib.IntN.{pos, negsuc, natAbs, _*ℤ_}
+use Rattle.integers.specs.Order.{_≼_, between}
 use Rattle.geometry.specs.declared.Point.{Point}
+use Rattle.geometry.specs.declared.Disk.{Disk}
 use Rattle.geometry.specs.declared.Limits.{Limits}
 
 abbrev pub em : Limits
@@ -28,6 +30,15 @@ inEmBox p = inBox em p
 
 abbrev pub allInEmBox : List Point → Bool
 allInEmBox ps = allInBox em ps
+
+pub record WithinLimits (l : Limits) (d : Disk) : Type 0 where
+  pub e-most : d .e ≤ l .scale
+  pub s-most : d .s ≤ l .square * (d .e * d .e)
+  -- left ≤ X/E ≤ right and foot ≤ Y/E ≤ top
+  pub x-low : l .left *ℤ pos (d .e) ≼ d .x
+  pub x-high : d .x ≼ l .right *ℤ pos (d .e)
+  pub y-low : l .foot *ℤ pos (d .e) ≼ d .y
+  pub y-high : d .y ≼ l .top *ℤ pos (d .e)
 
 abbrev pub largest : Limits → ℕ
 largest l = max (max (natAbs (l .left)) (natAbs (l .right))) (max (natAbs (l .foot)) (natAbs (l .top)))

@@ -1,13 +1,4 @@
--- The integers as a commutative ring, a solver for polynomial identities, the order, and bounds for machine integers.
-pub mod Laws
-pub mod Poly
-pub mod Ring
-pub mod Abs
+-- Whole numbers as contracts speak of them. The laws, a solver for identities and inequalities, and bounds of machine numbers are in proofs/.
 pub mod Order
-pub mod Linear
-pub mod Bounds
-pub mod Between
-pub mod Gcd
-pub mod LowestTerms
-pub mod Reduced
-pub mod Examples
+pub mod Divisor
+pub mod Least

@@ -3,9 +3,8 @@ ghost use mathlib.Core.Path.{_≡_};
 ghost use Prim.Native.Nat.{_<_, _^_};
 ghost use lib.IntN.{pos, natAbs};
 ghost use lib.Signed.{quotZ};
-ghost use Rattle.integers.specs.Between.{between};
-ghost use Rattle.integers.specs.Gcd.{gcd};
-ghost use Rattle.integers.specs.LowestTerms.{common, lowest};
+ghost use Rattle.integers.specs.Order.{between};
+ghost use Rattle.integers.specs.Divisor.{gcd, common, lowest};
 
 pub struct Triple {
     pub x: i64,

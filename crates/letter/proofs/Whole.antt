@@ -16,7 +16,7 @@ use lib.IntN.{ℤ}
 use lib.ListN.{length, take}
 use Rattle.answers.specs.Outcome.{Outcome, given, refused, andThen}
 use Rattle.answers.proofs.OutcomeLaws.{not-given}
-use Rattle.integers.specs.Between.{true-test}
+use Rattle.integers.proofs.Tests.{true-test}
 use Rattle.geometry.specs.declared.Point.{Point}
 use Rattle.geometry.specs.EmBox.{allInEmBox}
 use Rattle.geometry.specs.Points.{flat}
@@ -26,9 +26,9 @@ use Rattle.description.specs.Description.{named, loadOf, listAfter}
 use Rattle.description.proofs.Accepted.{accepted-count, accepted-some, accepted-few, accepted-in-box, accepted-front}
 use Rattle.engine.specs.Engine.{Enclosure, enclosure, encloseOf}
 use Rattle.engine.proofs.Checks.{accepted}
-use Rattle.record.specs.Valid.{valid}
-use Rattle.record.specs.Bytes.{recordLength}
-use Rattle.record.specs.Writing as writing
+use Rattle.validity.specs.Valid.{valid}
+use Rattle.record_writer.specs.Layout.{recordLength}
+use Rattle.record_writer.specs.Writing as writing
 use Rattle.letter.specs.Letter.{enclosureIn, enclosureOf, letter, letterOf, letterIn, bufferAfter}
 use Rattle.letter.proofs.ValidAnswer.{valid-enclosure}
 

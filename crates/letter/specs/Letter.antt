@@ -19,7 +19,8 @@ use lib.ListN.{length, take, drop, replicate}
 use Rattle.answers.specs.Outcome.{Outcome, given, refused, numberOf, refuseIf, andThen}
 use Rattle.description.specs.Description.{loadOf, listAfter}
 use Rattle.engine.specs.Engine.{Enclosure, encloseOf}
-use Rattle.record.specs.Bytes.{recordLength, recordBytes}
+use Rattle.record_writer.specs.Layout.{recordLength}
+use Rattle.record_writer.specs.Bytes.{recordBytes}
 use Rattle.letter.specs.declared.Worked.{Worked}
 use Rattle.letter.specs.declared.Worked.the-variants.{Done, Refused}
 

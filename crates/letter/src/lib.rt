@@ -30,12 +30,12 @@ pub fn work(text: &[u8], buf: &mut [u8]) -> Worked
     ensures { λ r. ⌜ outcome r ≡ testsIn (letterIn (now (text .entry)) (now (buf .entry))) ⌝ }
     ensures { λ _. ⌜ now (buf .exit) ≡ bufferAfter (letterIn (now (text .entry)) (now (buf .entry))) (now (buf .entry)) ⌝ }
 {
-    if buf.len() < record::RECORD_LENGTH {
+    if buf.len() < record_writer::RECORD_LENGTH {
         return Worked::Refused(Refusal::NoRoom);
     }
     match enclose(text) {
         Enclosed::Found(d, t, tests) => {
-            record::write_record(d, t, buf);
+            record_writer::write_record(d, t, buf);
             Worked::Done(tests)
         }
         Enclosed::Refused(r) => Worked::Refused(r),

@@ -18,11 +18,12 @@ use lib.Ieee.Back.{round-whole}
 use lib.Ieee.Exact.{HasValue}
 use lib.Ieee.Fits.{down-pos}
 use lib.Ieee.Scale.{round-same}
+use Rattle.geometry.specs.EmBox.{em}
 use Rattle.geometry.specs.declared.Disk.{Disk}
-use Rattle.record.specs.Valid.{validDisk}
-use Rattle.record.specs.Radius.{wholeRadius}
-use Rattle.record.proofs.ValidLaws.{limits}
-use Rattle.record.proofs.RadiusLaws.{radius-limit}
+use Rattle.validity.specs.Valid.{validDisk}
+use Rattle.radius.specs.Radius.{wholeRadius}
+use Rattle.validity.proofs.ValidLaws.{limits}
+use Rattle.radius.proofs.RadiusLaws.{radius-limit}
 use Rattle.preview.specs.Preview.{quotient}
 
 -- ---- whole numbers
@@ -92,7 +93,7 @@ pub record Exact (d : Disk) : Type 0 where
 
 pub preview-exact : (d : Disk) → validDisk d ≡ true → Exact d
 preview-exact d h =
-    let k = limits d h in
+    let k = limits em d h in
     let x : natAbs (d .x) ≤ 2 ^ 53 = omega (arith, k .x-small) in
     let y : natAbs (d .y) ≤ 2 ^ 53 = omega (arith, k .y-small) in
     let e : d .e ≤ 2 ^ 53 = omega (arith, k .e-small) in

@@ -15,8 +15,8 @@ use lib.Ieee.{Float, binary64, div, ofInt}
 use Rattle.answers.specs.Outcome.{Outcome, given, refused, numberOf, refuseIf}
 use Rattle.geometry.specs.declared.Point.{Point}
 use Rattle.geometry.specs.declared.Disk.{Disk}
-use Rattle.record.specs.Valid.{valid}
-use Rattle.record.specs.Radius.{wholeRadius}
+use Rattle.validity.specs.Valid.{valid}
+use Rattle.radius.specs.Radius.{wholeRadius}
 use Rattle.preview.specs.declared.Preview.{Preview}
 use Rattle.preview.specs.declared.Shown.{Shown}
 use Rattle.preview.specs.declared.Shown.the-variants.{At, Refused}

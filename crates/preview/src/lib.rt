@@ -3,12 +3,13 @@ ghost use mathlib.Core.Path.{_≡_};
 ghost use mathlib.Core.Bool.{true};
 ghost use Prim.Native.Nat.{_≤_};
 ghost use Rattle.geometry.specs.Plane.{members};
-ghost use Rattle.record.specs.Valid.{validDisk};
+ghost use Rattle.validity.specs.Valid.{validDisk};
+ghost use Rattle.radius.specs.Radius.{maxRadius};
 ghost use Rattle.preview.specs.Preview.{floats, previewOf, outcome};
 use answers::Refusal;
 use geometry::Disk;
 use geometry::SupportSet;
-use record::Radius;
+use radius::Radius;
 
 pub struct Preview {
     pub x: f64,
@@ -24,7 +25,7 @@ pub enum Shown {
 // Each number is converted without loss; each centre value is one division, rounded once.
 fn floats_of(d: Disk, r: u64) -> Preview
     requires { ⌜ validDisk d ≡ true ⌝ }
-    requires { ⌜ r ≤ 708 ⌝ }
+    requires { ⌜ r ≤ maxRadius ⌝ }
     ensures { λ p. ⌜ p ≡ floats d r ⌝ }
 {
     let x = d.x;
@@ -42,7 +43,7 @@ fn floats_of(d: Disk, r: u64) -> Preview
 pub fn preview_of(d: Disk, t: SupportSet) -> Shown
     ensures { λ s. ⌜ outcome s ≡ previewOf d (members t) ⌝ }
 {
-    match record::whole_radius(d, t) {
+    match radius::whole_radius(d, t) {
         Radius::Whole(r) => Shown::At(floats_of(d, r)),
         Radius::Refused(r) => Shown::Refused(r),
     }

@@ -4,9 +4,9 @@
 use geometry::Disk;
 use geometry::Point;
 use geometry::SupportSet;
-use record::Radius;
-use record::Record;
-use record::Written;
+use radius::Radius;
+use record_reader::Record;
+use record_writer::Written;
 
 fn wide(b: u8) -> u64 {
     b as u64
@@ -71,7 +71,7 @@ fn show_disk(d: Disk) {
 
 // The record, or the refusal.
 fn show_read(bytes: &[u8]) {
-    match record::read_record(bytes) {
+    match record_reader::read_record(bytes) {
         Record::Read(d, t) => {
             io::write_all(1, b" disk");
             show_disk(d);
@@ -84,7 +84,7 @@ fn show_read(bytes: &[u8]) {
 
 // What the writer answers, and the whole buffer afterwards.
 fn show_write(d: Disk, t: SupportSet, buf: &mut [u8]) {
-    match record::write_record(d, t, buf) {
+    match record_writer::write_record(d, t, buf) {
         Written::Done => {
             io::write_all(1, b" written");
         }
@@ -94,7 +94,7 @@ fn show_write(d: Disk, t: SupportSet, buf: &mut [u8]) {
 }
 
 fn show_radius(d: Disk, t: SupportSet) {
-    match record::whole_radius(d, t) {
+    match radius::whole_radius(d, t) {
         Radius::Whole(n) => {
             io::write_all(1, b" radius ");
             io::print_decimal(1, n);
@@ -254,7 +254,7 @@ fn show_changed(bytes: &mut [u8], at: usize, value: u8) {
 // The record of F with one byte changed.
 fn damaged(at: usize, value: u8) {
     let mut buf = [0u8; 44];
-    record::write_record(f_disk(), f_points(), &mut buf);
+    record_writer::write_record(f_disk(), f_points(), &mut buf);
     io::write_all(1, b"byte ");
     io::print_decimal(1, at as u64);
     show_changed(&mut buf, at, value);
@@ -323,7 +323,7 @@ fn damages() {
 // F's record made a, b, c with b's x as a's, and then a, a, c: only the last point may be repeated.
 fn repeated() {
     let mut buf = [0u8; 44];
-    record::write_record(f_disk(), f_points(), &mut buf);
+    record_writer::write_record(f_disk(), f_points(), &mut buf);
     io::write_all(1, b"repeated");
     show_changed(&mut buf, 37, 0);
     show_changed(&mut buf, 39, 0);
@@ -342,7 +342,7 @@ fn show_front(bytes: &[u8], n: usize) {
 
 fn lengths() {
     let mut long = [0u8; 50];
-    record::write_record(f_disk(), f_points(), &mut long);
+    record_writer::write_record(f_disk(), f_points(), &mut long);
     show_front(&long, 0);
     show_front(&long, 43);
     show_front(&long, 44);

@@ -5,7 +5,7 @@ use geometry::Disk;
 use geometry::Point;
 use geometry::SupportSet;
 use libc::STDOUT_FILENO;
-use record::Radius;
+use radius::Radius;
 
 // A space and the number.
 fn print_number(n: u64) {
@@ -70,7 +70,7 @@ fn print_refusal(r: Refusal) {
 
 // The four lines of a disk, its support set and the test count.
 fn print_enclosure(d: Disk, t: SupportSet, tests: u64) {
-    match record::whole_radius(d, t) {
+    match radius::whole_radius(d, t) {
         Radius::Whole(r) => {
             print_disk(d);
             print_support_set(t);

@@ -18,7 +18,7 @@ use borrow.Author.Tests.{le-leb, leb-true, leb-false, ltb-false, not-false}
 use lib.Dec.{leb, ltb}
 use lib.ListN.{length, take, drop, length-drop}
 use lib.Seq.{length-take-le}
-use Rattle.integers.specs.Between.{first, rest}
+use Rattle.integers.proofs.Tests.{first, rest}
 use Rattle.answers.specs.Outcome.{Outcome, given, refused, refuseIf}
 use Rattle.answers.proofs.OutcomeLaws.{not-refused}
 use Rattle.sheet.specs.Sheet.{Place, count, directoryEnd, pair, pairs, follow, glyphOf, pickList, partOf}

@@ -15,13 +15,12 @@ use lib.Dec.{T}
 use lib.IntN.{ℤ, pos, negsuc, _*ℤ_}
 use lib.ListN.{length}
 use lib.Signed.{_<ℤ_}
-use Rattle.integers.specs.Ring.{poly, linear, eqn, _&_}
-use Rattle.integers.specs.Order.{≡-cancel}
+use Rattle.integers.proofs.Ring.{poly, linear, eqn, _&_}
+use Rattle.integers.proofs.Order.{≡-cancel}
 use Rattle.geometry.specs.declared.Point.{Point}
 use Rattle.geometry.specs.declared.Disk.{Disk}
 use Rattle.disks.specs.Smallest.{In, Smallest}
-use Rattle.geometry.specs.EmBox.{allInEmBox}
-use Rattle.disks.specs.Limits.{Limits}
+use Rattle.geometry.specs.EmBox.{allInEmBox, WithinLimits}
 use Rattle.disks.specs.Procedure.{diskOf}
 use Rattle.disks.specs.Support.{sorted, candidates, firstOf, firstSupport}
 use Rattle.disks.specs.FirstSupport.{Rising, IsSupport, IsFirstSupport, Earlier, fewer, lexical}
@@ -251,5 +250,5 @@ module _ (P : List Point) (some : 1 ≤ length P) (d : Disk) (is : d ≡ diskOf 
   pub e-some : 1 ≤ d .e
   e-some = by-point (λ d P. 1 ≤ d .e) (λ p P. written-some (proper p P) (w p P))
 
-  pub within-limits : allInEmBox P ≡ true → Limits d
-  within-limits = by-point (λ d P. allInEmBox P ≡ true → Limits d) (λ p P boxed. limits p P (box-members (p ∷ P) boxed))
+  pub within-limits : allInEmBox P ≡ true → WithinLimits d
+  within-limits = by-point (λ d P. allInEmBox P ≡ true → WithinLimits d) (λ p P boxed. limits p P (box-members (p ∷ P) boxed))

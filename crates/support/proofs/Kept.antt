@@ -15,14 +15,15 @@ use lib.Dec.{T, eqb→eq}
 use lib.IntN.{ℤ, pos, negsuc, _+ℤ_, _-ℤ_, _*ℤ_}
 use lib.ListN.{length}
 use lib.Signed.{_<ℤ_, _≤ℤ_}
-use Rattle.integers.specs.Bounds.{and-left}
-use Rattle.integers.specs.Laws.{+-comm, eq-of-sub}
-use Rattle.integers.specs.Ring.{poly, linear, eqn, _&_}
-use Rattle.integers.specs.Order.{≤-of-eq, ≤-of-<, <-≤-clash, <-trans, ≡-cancel, sum-squares-zero, nonneg, le, eq, _⊞_}
+use Rattle.integers.proofs.Tests.{and-left}
+use Rattle.integers.proofs.Laws.{+-comm, eq-of-sub}
+use Rattle.integers.proofs.Ring.{poly, linear, eqn, _&_}
+use Rattle.integers.proofs.Order.{≤-of-eq, ≤-of-<, <-≤-clash, <-trans, ≡-cancel, sum-squares-zero, nonneg, le, eq, _⊞_, eqZ-eq}
 use Rattle.geometry.specs.declared.Point.{Point}
 use Rattle.geometry.specs.declared.Disk.{Disk}
 use Rattle.geometry.specs.Plane.{distance}
-use Rattle.geometry.specs.Order.{before, eqZ}
+use Rattle.geometry.specs.Order.{before}
+use Rattle.integers.specs.Order.{eqZ}
 use Rattle.disks.specs.Smallest.{In}
 use Rattle.disks.specs.Procedure.{diskOf}
 use Rattle.disks.specs.Support.{insert, sorted, candidates, firstSupport}
@@ -30,7 +31,7 @@ use Rattle.disks.specs.FirstSupport.{Rising, Earlier, fewer, lexical, here, the
 use Rattle.disks.proofs.Minimal.{none-of, also}
 use Rattle.disks.proofs.Base.{positive-not-zero}
 use Rattle.disks.proofs.StrongSmallest.{some-positive}
-use Rattle.disks.proofs.Rising.{ByCoordinates, by-x, by-y, by-coordinates, is-before, eqZ-eq, insert-in, insert-new, insert-old, insert-rises, sorted-rises, sorted-same}
+use Rattle.disks.proofs.Rising.{ByCoordinates, by-x, by-y, by-coordinates, is-before, insert-in, insert-new, insert-old, insert-rises, sorted-rises, sorted-same}
 use Rattle.disks.proofs.Choose.{Among}
 use Rattle.disks.proofs.First.{Passes, first-passes, Candidate, candidate, a-candidate, candidates-earlier, earlier-asym}
 use Rattle.support.specs.Search.{onBoundaryTest, boundaryOf, midway, opposite, fits, firstFit}

@@ -22,19 +22,17 @@ use lib.Signed.{leZ, natAbs-le}
 use mir.Syntax.{w16, w64}
 use mir.Val.{SFits, toZ, ofZ}
 use mir.Facts.{toZ-ofZ}
-use Rattle.integers.specs.Between.{between}
-use Rattle.integers.specs.Bounds as bounds
-use Rattle.integers.specs.Bounds.{Value, v-add, v-neg, v-back, v-eq, v-fits, v-abs, reads-as, at-most, within-range, and-left, and-right}
-use Rattle.integers.specs.Laws.{zero-*}
-use Rattle.integers.specs.Order.{_≼_, ≤-of-eq, ≤-trans, pos-le, nn-nat, nonneg, le, nn, _⊞_, _⊠_}
-use Rattle.integers.specs.Ring.{poly}
+use Rattle.integers.specs.Order.{between, _≼_, eqZ}
+use Rattle.integers.proofs.Bounds as bounds
+use Rattle.integers.proofs.Bounds.{Value, v-add, v-neg, v-back, v-eq, v-fits, v-abs, reads-as, at-most, within-range}
+use Rattle.integers.proofs.Tests.{and-left, and-right}
+use Rattle.integers.proofs.Laws.{zero-*}
+use Rattle.integers.proofs.Order.{≤-of-eq, ≤-trans, pos-le, nn-nat, nonneg, le, nn, _⊞_, _⊠_, eqZ-eq, eq-eqZ}
+use Rattle.integers.proofs.Ring.{poly}
 use Rattle.geometry.specs.declared.Point.{Point}
 use Rattle.geometry.specs.declared.Disk.{Disk}
-use Rattle.geometry.specs.Order.{eqZ}
-use Rattle.geometry.specs.EmBox.{inBox, inEmBox}
+use Rattle.geometry.specs.EmBox.{inBox, inEmBox, WithinLimits}
 use Rattle.geometry.proofs.Coordinates.{widened}
-use Rattle.disks.specs.Limits.{Limits}
-use Rattle.disks.proofs.Rising.{eqZ-eq, eq-eqZ}
 use Rattle.support.specs.Search.{midway, Small, SmallDisk}
 
 abbrev pub wide-value : (z : ℤ) {r : ℤ} → SFits w16 z → r ≡ toZ w16 (ofZ w16 z) → Value (toZ w64 (ofZ w64 r))
@@ -73,7 +71,7 @@ centre-small lo hi e c c-low c-high e-low e-high h k = within-range {B = 2000000
     (nonneg (lo ∷ hi ∷ e ∷ c ∷ []) (le c-low ⊞ le h ⊠ e-low ⊞ nn 1000 ⊠ le e-high) (search poly depth 30) tt)
     (nonneg (lo ∷ hi ∷ e ∷ c ∷ []) (le c-high ⊞ le k ⊠ e-low ⊞ nn 1000 ⊠ le e-high) (search poly depth 30) tt) .within
 
-module _ (d : Disk) (a : Limits d) where
+module _ (d : Disk) (a : WithinLimits d) where
   x-low : pos 0 *ℤ pos (d .e) ≼ d .x
   x-low = ≤-trans (≤-of-eq (zero-* (pos (d .e)))) (a .x-low)
 

@@ -11,10 +11,10 @@ use Prim.Native.Nat.{ℕ}
 use lib.Dec.{T, eqb, eqb→eq}
 use lib.IntN.{ℤ, pos, negsuc, _+ℤ_, _-ℤ_, _*ℤ_}
 use lib.Signed.{_<ℤ_}
-use Rattle.integers.specs.Bounds.{and-left, and-right}
-use Rattle.integers.specs.Laws.{eq-of-sub}
-use Rattle.integers.specs.Ring.{ring, poly, linear, eqn, _&_}
-use Rattle.integers.specs.Order.{≡-cancel, sum-squares-zero}
+use Rattle.integers.proofs.Tests.{and-left, and-right}
+use Rattle.integers.proofs.Laws.{eq-of-sub}
+use Rattle.integers.proofs.Ring.{ring, poly, linear, eqn, _&_}
+use Rattle.integers.proofs.Order.{≡-cancel, sum-squares-zero, eqZ-eq, eq-eqZ}
 use Rattle.geometry.specs.declared.Point.{Point}
 use Rattle.geometry.specs.declared.Disk.{Disk}
 use Rattle.geometry.specs.Plane.{distance}
@@ -25,7 +25,7 @@ use Rattle.disks.proofs.LowestTerms.{Written, written-value}
 use Rattle.disks.proofs.StrongSmallest.{some-positive, written-on}
 use Rattle.disks.proofs.Own.{one-test, two-test}
 use Rattle.disks.proofs.Acute.{angle, acute-strong}
-use Rattle.disks.proofs.Rising.{both, eqZ-eq, eq-eqZ}
+use Rattle.disks.proofs.Rising.{both}
 use Rattle.support.specs.Search.{onBoundaryTest, midway, opposite, acuteAt, acute, fits}
 
 -- z·E = R and z·e = r say the same where E = g·e and R = g·r

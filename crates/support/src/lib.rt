@@ -8,10 +8,9 @@ ghost use Prim.Native.Nat.{_+_, _*_, _≤_};
 ghost use lib.Dec.{T};
 ghost use lib.IntN.{pos, _-ℤ_, _*ℤ_};
 ghost use lib.ListN.{length};
-ghost use Rattle.geometry.specs.EmBox.{inEmBox, allInEmBox};
+ghost use Rattle.geometry.specs.EmBox.{inEmBox, allInEmBox, WithinLimits};
 ghost use Rattle.geometry.specs.Plane.{members};
 ghost use Rattle.geometry.specs.Points.{points, firstPoints};
-ghost use Rattle.disks.specs.Limits.{Limits};
 ghost use Rattle.disks.specs.Smallest.{In};
 ghost use Rattle.disks.specs.Support.{insert, firstSupport};
 ghost use Rattle.support.specs.Search.{onBoundaryTest, midway, opposite, acuteAt, acute, firstFit, Small, SmallDisk, Asked};
@@ -34,7 +33,7 @@ fn offset(v: i16, e: u64, c: i64) -> i64
 
 // Whether p is on the disk's boundary (01: on the rim).
 fn on_boundary(disk: Disk, p: Point) -> bool
-    requires { ⌜ Limits disk × T (inEmBox p) ⌝ }
+    requires { ⌜ WithinLimits disk × T (inEmBox p) ⌝ }
     ensures { λ r. ⌜ r ≡ onBoundaryTest disk p ⌝ }
 {
     let a = offset(p.x, disk.e, disk.x);

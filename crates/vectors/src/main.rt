@@ -5,9 +5,9 @@ use geometry::SupportSet;
 ghost use Prim.Native.Nat.{_≤_};
 
 fn print_radius(d: Disk, t: SupportSet) {
-    match record::whole_radius(d, t) {
-        record::Radius::Whole(r) => cases::print_count(b"whole", r),
-        record::Radius::Refused(r) => cases::print_refusal(r),
+    match radius::whole_radius(d, t) {
+        radius::Radius::Whole(r) => cases::print_count(b"whole", r),
+        radius::Radius::Refused(r) => cases::print_refusal(r),
     }
 }
 
@@ -109,14 +109,14 @@ fn run_sheet(bytes: &[u8]) {
 
 // R: a record, through the reader.
 fn run_reader(bytes: &[u8]) {
-    match record::read_record(bytes) {
-        record::Record::Read(d, t) => {
+    match record_reader::read_record(bytes) {
+        record_reader::Record::Read(d, t) => {
             cases::print_disk(d);
             cases::print_support(t);
             print_radius(d, t);
             print_preview(d, t);
         }
-        record::Record::Refused(r) => cases::print_refusal(r),
+        record_reader::Record::Refused(r) => cases::print_refusal(r),
     }
 }
 
@@ -151,9 +151,9 @@ fn get_disk(bytes: &[u8]) -> Disk {
 }
 
 fn write(d: Disk, t: SupportSet, buffer: &mut [u8]) {
-    match record::write_record(d, t, buffer) {
-        record::Written::Done => cases::print_text(b"written\n"),
-        record::Written::Refused(r) => cases::print_refusal(r),
+    match record_writer::write_record(d, t, buffer) {
+        record_writer::Written::Done => cases::print_text(b"written\n"),
+        record_writer::Written::Refused(r) => cases::print_refusal(r),
     }
     cases::print_count(b"buffer", cases::byte_checksum(buffer));
 }

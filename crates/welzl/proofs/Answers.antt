@@ -16,10 +16,10 @@ use native.Mathlib.Omega.{arith}
 use lib.IntN.{ℤ, pos, negsuc, natAbs, _+ℤ_, _*ℤ_}
 use lib.ListN.{length, drop, drop-of-length-le}
 use lib.Signed.{_≤ℤ_, _<ℤ_}
-use Rattle.integers.specs.Between.{test-true, true-test}
-use Rattle.integers.specs.Bounds.{Within}
-use Rattle.integers.specs.Order.{le-pos, ≤-of-<, nonneg, nonneg-by, le, sq, nn, _⊞_, _⊠_, <-≤-clash, ≤-of-eq}
-use Rattle.integers.specs.Ring.{poly}
+use Rattle.integers.proofs.Tests.{test-true, true-test}
+use Rattle.integers.specs.Order.{Within}
+use Rattle.integers.proofs.Order.{le-pos, ≤-of-<, nonneg, nonneg-by, le, sq, nn, _⊞_, _⊠_, <-≤-clash, ≤-of-eq}
+use Rattle.integers.proofs.Ring.{poly}
 use Rattle.geometry.specs.declared.Point.{Point}
 use Rattle.geometry.specs.EmBox.{inEmBox, allInEmBox}
 use Rattle.geometry.specs.Points.{points, flat}

@@ -13,8 +13,7 @@ use mathlib.Core.Logic.{_⊎_}
 use mathlib.Core.Bool.{Bool, true, false}
 use lib.IntN.{ℤ, pos, negsuc, negℤ, _+ℤ_, _-ℤ_, _*ℤ_}
 use lib.Signed.{ltZ}
-use Rattle.integers.specs.Bounds.{Within}
-use Rattle.integers.specs.Order.{_≺_}
+use Rattle.integers.specs.Order.{Within, _≺_}
 use Rattle.geometry.specs.declared.Point.{Point}
 use Rattle.disks.proofs.Lifted.{Lifted, noDisk}
 use Rattle.disks.proofs.Relative.{relative}

@@ -1,7 +1,7 @@
 -- `c_radius::radius_answer` meets its contract: each case of the answer is `radiusAnswer` of its outcome.
 use mathlib.Core.Path.{_∙_}
 use borrow.Author.Needs.{needs}
-use Rattle.record.specs.Radius.{outcome}
+use Rattle.radius.specs.Radius.{outcome}
 use Rattle.c_radius.specs.Answer.{radiusAnswer}
 use Rattle.c_types.proofs.Known.{known-outcome}
 use Rattle.c_radius.proofs.radius_answer.Statement.{statement}

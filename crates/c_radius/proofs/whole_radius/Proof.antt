@@ -5,7 +5,7 @@ use borrow.Author.Needs.{needs}
 use Rattle.answers.specs.Outcome.{refused}
 use Rattle.geometry.specs.declared.Point.{Point}
 use Rattle.geometry.specs.declared.Disk.{Disk}
-use Rattle.record.specs.Radius.{radiusOf}
+use Rattle.radius.specs.Radius.{radiusOf}
 use Rattle.c_types.specs.Support.{setPoints}
 use Rattle.c_radius.specs.Answer.{radiusAnswer}
 use Rattle.c_types.proofs.NoSet.{no-points}

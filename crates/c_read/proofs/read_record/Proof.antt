@@ -1,7 +1,7 @@
 -- `c_read::read_record` meets its contract: each case of the answer is `recordAnswer` of its outcome.
 use mathlib.Core.Path.{ap, _∙_}
 use borrow.Author.Needs.{needs}
-use Rattle.record.specs.Reading.{outcome}
+use Rattle.record_reader.specs.Reading.{outcome}
 use Rattle.c_types.specs.declared.Support.{Support}
 use Rattle.c_read.specs.Answer.{recordAnswer}
 use Rattle.c_types.proofs.Known.{known-outcome}

@@ -1,7 +1,7 @@
 -- `c_write::write_code` meets its contract: each case of the answer is `codeOf` of its outcome, and the buffer is as the writer leaves it.
 use mathlib.Core.Path.{_∙_}
 use borrow.Author.Needs.{needs}
-use Rattle.record.specs.Writing.{outcome}
+use Rattle.record_writer.specs.Writing.{outcome}
 use Rattle.c_types.specs.Code.{codeOf}
 use Rattle.c_types.proofs.Known.{known-outcome}
 use Rattle.c_write.proofs.write_code.Statement.{statement}

@@ -10,8 +10,8 @@ use lib.ListN.{length}
 use Rattle.answers.specs.Outcome.{Outcome, refused, refuseIf}
 use Rattle.geometry.specs.declared.Point.{Point}
 use Rattle.geometry.specs.declared.Disk.{Disk}
-use Rattle.record.specs.Writing.{writeOf, leftBy, bufferAfter}
-use Rattle.record.specs.Bytes.{recordLength}
+use Rattle.record_writer.specs.Writing.{writeOf, leftBy, bufferAfter}
+use Rattle.record_writer.specs.Layout.{recordLength}
 use Rattle.c_types.specs.Support.{setPoints, pointsOf}
 use Rattle.c_types.specs.Code.{codeOf}
 use Rattle.c_types.proofs.NoSet.{no-points}

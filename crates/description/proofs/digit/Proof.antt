@@ -2,7 +2,7 @@
 use borrow.Author.Tests.{leb-true}
 use borrow.Author.Needs.{needs}
 use lib.Dec.{leb}
-use Rattle.integers.specs.Between.{first}
+use Rattle.integers.proofs.Tests.{first}
 use Rattle.description.proofs.digit.Statement.{statement}
 use Rattle.description.proofs.digit.Tie as tie
 

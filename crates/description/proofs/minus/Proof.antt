@@ -4,8 +4,8 @@ use mathlib.Core.Path.{_∙_}
 use native.Mathlib.Omega.{arith}
 use borrow.Author.Needs.{needs}
 use lib.IntN.{pos, negℤ}
-use Rattle.integers.specs.Laws.{zero-+}
-use Rattle.integers.specs.Bounds.{values, v-nat, fits, reads-as}
+use Rattle.integers.proofs.Laws.{zero-+}
+use Rattle.integers.proofs.Bounds.{values, v-nat, fits, reads-as}
 use Rattle.description.proofs.minus.Statement.{statement}
 use Rattle.description.proofs.minus.Tie as tie
 

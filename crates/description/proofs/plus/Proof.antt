@@ -2,7 +2,7 @@
 use native.Mathlib.Omega.{arith}
 use borrow.Author.Needs.{needs}
 use mir.Syntax.{w16}
-use Rattle.integers.specs.Bounds.{nat-back}
+use Rattle.integers.proofs.Bounds.{nat-back}
 use Rattle.description.proofs.plus.Statement.{statement}
 use Rattle.description.proofs.plus.Tie as tie
 

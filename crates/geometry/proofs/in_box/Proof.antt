@@ -4,7 +4,8 @@ use borrow.Author.Needs.{needs}
 use mir.Syntax.{w64}
 use mir.Val.{SFits}
 use mir.Facts.{toZ-ofZ}
-use Rattle.integers.specs.Between.{between, stop, pass}
+use Rattle.integers.specs.Order.{between}
+use Rattle.integers.proofs.Tests.{stop, pass}
 use Rattle.geometry.specs.declared.Point.{Point}
 use Rattle.geometry.proofs.Coordinates.{widened}
 use Rattle.geometry.specs.declared.Limits.{Limits}

@@ -3,7 +3,8 @@ use mathlib.Core.Path.{ap, ap₂, _∙_}
 use borrow.Author.Needs.{needs}
 use lib.IntN.{natAbs}
 use mir.Facts.{toZ-ofZ}
-use Rattle.integers.specs.Gcd.{gcd, gcd-three}
+use Rattle.integers.specs.Divisor.{gcd}
+use Rattle.integers.proofs.Gcd.{gcd-three}
 use Rattle.integers.proofs.common_divisor.Statement.{statement}
 use Rattle.integers.proofs.common_divisor.Tie as tie
 

@@ -3,7 +3,8 @@
 use mathlib.Core.Path.{_≡_, refl, sym, ap, _∙_}
 use native.Mathlib.Nat.{mod-lt}
 use native.Mathlib.Omega.{arith}
-use Rattle.integers.specs.Gcd.{gcd, gcd-step, gcd-zero}
+use Rattle.integers.specs.Divisor.{gcd}
+use Rattle.integers.proofs.Gcd.{gcd-step, gcd-zero}
 use Rattle.integers.proofs.gcd_of.Statement.{statement}
 use Rattle.integers.proofs.gcd_of.Tie as tie
 

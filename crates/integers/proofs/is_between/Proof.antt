@@ -2,7 +2,7 @@
 use mathlib.Core.Path.{sym, ap₂, _∙_}
 use lib.Signed.{ltZ, leZ}
 use mir.Facts.{toZ-ofZ}
-use Rattle.integers.specs.Between.{stop, pass, below, not-below}
+use Rattle.integers.proofs.Tests.{stop, pass, below, not-below}
 use Rattle.integers.proofs.is_between.Statement.{statement}
 use Rattle.integers.proofs.is_between.Tie as tie
 

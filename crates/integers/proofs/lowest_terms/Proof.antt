@@ -8,7 +8,8 @@ use lib.Signed.{quotZ}
 use mir.Syntax.{w64}
 use mir.Val.{SFits, toZ, ofZ}
 use mir.Facts.{toZ-ofZ}
-use Rattle.integers.specs.LowestTerms.{common, over, common-pos, common-le}
+use Rattle.integers.specs.Divisor.{common, over}
+use Rattle.integers.proofs.LowestTerms.{common-pos, common-le}
 use Rattle.integers.proofs.lowest_terms.Statement.{statement}
 use Rattle.integers.proofs.lowest_terms.Tie as tie
 

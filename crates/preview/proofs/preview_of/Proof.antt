@@ -1,12 +1,13 @@
 -- `preview::preview_of` meets its contract: a whole radius that was answered says that the disk is valid, and which radius it has.
 use mathlib.Core.Path.{sym, ap, _∙_}
 use borrow.Author.Needs.{needs}
+use Rattle.geometry.specs.EmBox.{em}
 use Rattle.answers.specs.Outcome.{given, refused}
 use Rattle.geometry.specs.Plane.{members}
-use Rattle.record.specs.Valid.{valid}
-use Rattle.record.specs.Radius.{wholeRadius, outcome}
-use Rattle.record.proofs.ValidLaws.{limits, valid-disk}
-use Rattle.record.proofs.RadiusLaws.{radius-limit}
+use Rattle.validity.specs.Valid.{valid}
+use Rattle.radius.specs.Radius.{wholeRadius, outcome}
+use Rattle.validity.proofs.ValidLaws.{limits, valid-disk}
+use Rattle.radius.proofs.RadiusLaws.{radius-limit}
 use Rattle.preview.specs.Preview.{floats}
 use Rattle.preview.proofs.Answers.{given-by, refused-by}
 use Rattle.preview.proofs.preview_of.Statement.{statement}
@@ -24,7 +25,7 @@ floats-of-requires c κs =
     let d = w .before .args .d in
     let ps = members (w .before .args .t) in
     let k = given-by (valid d ps) 7 _ (wholeRadius d) (ap outcome (sym (c .before .r .given .1)) ∙ w .whole-radius .ensures) in
-    let v = valid-disk d ps (k .0) in (v, rw (k .1) (radius-limit d (limits d v)))
+    let v = valid-disk em d ps (k .0) in (v, rw (k .1) (radius-limit d (limits em d v)))
 
 enum-known-r-2 : tie.Need-enum-known-r-2
 enum-known-r-2 c = search needs

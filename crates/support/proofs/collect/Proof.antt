@@ -13,16 +13,15 @@ use lib.Signed.{ltZ}
 use mir.Syntax.{w16}
 use mir.Val.{toZ, ofZ}
 use mir.Facts.{toZ-ofZ}
-use Rattle.integers.specs.Bounds.{and-left, and-right}
-use Rattle.integers.specs.Order.{<-≤-clash, ≤-of-<}
+use Rattle.integers.proofs.Tests.{and-left, and-right}
+use Rattle.integers.proofs.Order.{<-≤-clash, ≤-of-<}
 use Rattle.geometry.specs.declared.Point.{Point}
 use Rattle.geometry.specs.Points.{points, pointAt, firstPoints}
-use Rattle.geometry.specs.EmBox.{inEmBox}
+use Rattle.geometry.specs.EmBox.{inEmBox, WithinLimits}
 use Rattle.geometry.proofs.EmBox.{box-members}
 use Rattle.geometry.proofs.PointLists.{length-firstPoints, firstPoints-next, firstPoints-whole}
 use Rattle.geometry.proofs.PointRows.{points-some, pointAt-in}
 use Rattle.disks.specs.Smallest.{In}
-use Rattle.disks.specs.Limits.{Limits}
 use Rattle.disks.specs.Support.{insert}
 use Rattle.disks.proofs.Rising.{insert-new, insert-length}
 use Rattle.support.specs.Span.{Spanned, Spans}
@@ -39,7 +38,7 @@ Inv-loop list disk out₀ m₀ span₀ n i₀ out m span i =
 abbrev μ-loop : tie.MeasureT-loop
 μ-loop list disk out₀ m₀ span₀ n i₀ out m span i = length list / 2 - i
 
-in-limits : (s : tie.Start Inv-loop μ-loop) → Limits (s .args .disk)
+in-limits : (s : tie.Start Inv-loop μ-loop) → WithinLimits (s .args .disk)
 in-limits s = within-limits (points (s .args .list .now)) (points-some (s .args .list .now) (s .pre .0 .some)) (s .args .disk) (s .pre .0 .smallest) (s .pre .0 .boxed)
 
 -- the point that was read, behind those that were looked at

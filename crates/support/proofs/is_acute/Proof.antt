@@ -3,7 +3,7 @@ use borrow.Author.Needs.{needs}
 use mathlib.Core.Path.{_≡_, sym, _∙_}
 use mathlib.Core.Bool.{true, _&&_}
 use borrow.Author.Tests.{not-true, not-false}
-use Rattle.integers.specs.Between.{stop, pass}
+use Rattle.integers.proofs.Tests.{stop, pass}
 use Rattle.support.specs.Search.{acuteAt, acute}
 use Rattle.support.proofs.is_acute.Statement.{statement}
 use Rattle.support.proofs.is_acute.Tie as tie

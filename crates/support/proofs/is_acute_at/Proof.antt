@@ -4,7 +4,7 @@ use lib.IntN.{_+ℤ_, _*ℤ_}
 use mathlib.Core.Path.{refl}
 use mir.Syntax.{w64}
 use mir.Val.{toZ, ofZ}
-use Rattle.integers.specs.Bounds.{Value, v-add, v-mul, v-back, v-lit, t-lt, fits, tests-as}
+use Rattle.integers.proofs.Bounds.{Value, v-add, v-mul, v-back, v-lit, t-lt, fits, tests-as}
 use Rattle.support.specs.Search.{acuteAt}
 use Rattle.support.proofs.Numbers.{minus-value}
 use Rattle.support.proofs.is_acute_at.Statement.{statement}

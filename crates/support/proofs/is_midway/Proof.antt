@@ -4,7 +4,7 @@ use mathlib.Core.Path.{refl, _∙_}
 use lib.IntN.{pos, _+ℤ_, _*ℤ_}
 use mir.Syntax.{w64}
 use mir.Val.{toZ, ofZ}
-use Rattle.integers.specs.Bounds.{Value, v-add, v-mul, v-back, v-lit, v-nat, fits, eq-test}
+use Rattle.integers.proofs.Bounds.{Value, v-add, v-mul, v-back, v-lit, v-nat, fits, eq-test}
 use Rattle.support.specs.Search.{midway}
 use Rattle.support.proofs.Numbers.{wide-value, stored-value, eqZ-machine}
 use Rattle.support.proofs.is_midway.Statement.{statement}

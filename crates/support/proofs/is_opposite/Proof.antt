@@ -1,6 +1,6 @@
 -- `support::is_opposite` meets its contract, by that of `is_midway` along x and along y.
 use mathlib.Core.Path.{_≡_, sym, _∙_}
-use Rattle.integers.specs.Between.{stop, pass}
+use Rattle.integers.proofs.Tests.{stop, pass}
 use Rattle.support.specs.Search.{midway, opposite}
 use Rattle.support.proofs.Numbers.{stored-small, midway-read}
 use Rattle.support.proofs.is_opposite.Statement.{statement}

@@ -4,7 +4,7 @@ use mathlib.Core.Bool.{false}
 use lib.Signed.{ltZ}
 use mir.Syntax.{w16}
 use mir.Val.{SFits, toZ, ofZ}
-use Rattle.integers.specs.Between.{stop, pass}
+use Rattle.integers.proofs.Tests.{stop, pass}
 use Rattle.geometry.proofs.Coordinates.{compared}
 use Rattle.support.proofs.is_spanned.Statement.{statement}
 use Rattle.support.proofs.is_spanned.Tie as tie

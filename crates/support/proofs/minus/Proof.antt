@@ -3,7 +3,7 @@ use borrow.Author.Needs.{needs}
 use lib.IntN.{_-ℤ_}
 use mir.Syntax.{w64}
 use mir.Val.{toZ, ofZ}
-use Rattle.integers.specs.Bounds.{Value, v-add, v-neg, v-back, fits, reads-as}
+use Rattle.integers.proofs.Bounds.{Value, v-add, v-neg, v-back, fits, reads-as}
 use Rattle.support.proofs.Numbers.{wide-value}
 use Rattle.support.proofs.minus.Statement.{statement}
 use Rattle.support.proofs.minus.Tie as tie

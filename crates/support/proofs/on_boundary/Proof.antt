@@ -3,7 +3,7 @@ use mathlib.Core.Path.{_∙_}
 use lib.IntN.{pos, _+ℤ_, _*ℤ_}
 use mir.Syntax.{w64}
 use mir.Val.{toZ, ofZ}
-use Rattle.integers.specs.Bounds.{Value, v-add, v-mul, v-back, v-abs, fits, eq-test}
+use Rattle.integers.proofs.Bounds.{Value, v-add, v-mul, v-back, v-abs, fits, eq-test}
 use Rattle.support.specs.Search.{onBoundaryTest}
 use Rattle.support.proofs.Numbers.{stored-small, offset-value, limits-small, near-x, near-y, s-small, eqZ-machine}
 use Rattle.support.proofs.on_boundary.Statement.{statement}

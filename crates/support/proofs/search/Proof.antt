@@ -12,9 +12,7 @@ use Rattle.geometry.specs.Points.{pointAt, firstPoints}
 use Rattle.disks.specs.Support.{choose}
 use Rattle.support.specs.Search.{fits, firstFit}
 use Rattle.geometry.proofs.PointRows.{firstPoints-from, firstPoints-end}
-use Rattle.support.proofs.Left.{fit-some, acuteSet, three-acute, ones-hit, ones-miss, pairsFrom, pairsWith, triplesFrom, triplesWith, triplesOf}
-use Rattle.support.proofs.Left.{pairs-at, pair-hit, pair-miss, pairs-with-end, pairs-end}
-use Rattle.support.proofs.Left.{triples-at, triples-with-at, triple-hit, triple-miss, triples-of-end, triples-with-end, triples-end}
+use Rattle.support.proofs.Left.{fit-some, acuteSet, three-acute, ones-hit, ones-miss, pairsFrom, pairsWith, triplesFrom, triplesWith, triplesOf, pairs-at, pair-hit, pair-miss, pairs-with-end, pairs-end, triples-at, triples-with-at, triple-hit, triple-miss, triples-of-end, triples-with-end, triples-end}
 use Rattle.support.proofs.search.Statement.{statement}
 use Rattle.support.proofs.search.Tie as tie
 

@@ -4,7 +4,7 @@ use borrow.Author.Needs.{needs}
 use lib.IntN.{natAbs, _+ℤ_, _*ℤ_}
 use mir.Syntax.{w64}
 use mir.Val.{toZ, ofZ}
-use Rattle.integers.specs.Bounds.{machine, fits, reads-as, leaf-back}
+use Rattle.integers.proofs.Bounds.{machine, fits, reads-as, leaf-back}
 use Rattle.disks.proofs.LowestTerms.{positive-is}
 use Rattle.welzl.proofs.RelativeLaws.{same-terms}
 use Rattle.welzl.proofs.written.Statement.{statement}

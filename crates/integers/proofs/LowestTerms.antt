@@ -1,0 +1,93 @@
+-- A triple X, Y, E of two integers and a natural number, divided by its greatest common divisor (01, "Disk and rim": the divisor rule).
+--
+--   divides-x, divides-y, divides-e, common-greatest   : `common` divides all three, and is the greatest that does
+--   common-pos, common-le                              : for e ≥ 1 it is from 1 to e
+--   coprime, lowest-reduced                            : a triple in lowest terms is reduced
+--   quot-exact                                         : each number is its quotient times the common divisor
+--   natAbs-quot                                        : the quotient's size is the size's quotient
+--   lowest-pos                                         : for e ≥ 1 the third number in lowest terms is ≥ 1
+--   lowest-proportion                                  : the triple in lowest terms is in proportion with the triple
+--
+-- Scaling, and that a reduced triple is the only one in its proportion: Reduced.antt.
+use mathlib.Core.Path.{_≡_, refl, sym, ap, _∙_, subst}
+use Prim.Native.Nat.{ℕ, zero, suc, _*_, _/_, _≤_, _<_, _∣_}
+use native.Mathlib.Nat.{dvd-trans, le-of-dvd, pos-of-dvd-of-pos, mul-dvd-mul-right, div-mul-cancel, eq-one-of-dvd-one, dvd-of-mul-dvd-mul-right, one-mul, zero-mul, not-suc-le-zero, zero-lt-suc}
+use mathlib.Core.List.{[], _∷_}
+use lib.IntN.{ℤ, pos, negsuc, negℤ, natAbs, _*ℤ_}
+use lib.Signed.{quotZ}
+use Rattle.integers.proofs.Abs.{abs-neg}
+use Rattle.integers.specs.Divisor.{gcd, Reduced, common, lowest}
+use Rattle.integers.proofs.Gcd.{gcd-left, gcd-right, gcd-greatest}
+use Rattle.integers.proofs.Ring.{poly, linear, eqn, _&_}
+use Rattle.integers.specs.declared.Triple.{Triple}
+
+-- ---- the common divisor
+
+module _ (x y : ℤ) (e : ℕ) where
+  pub divides-x : common x y e ∣ natAbs x
+  divides-x = dvd-trans (common x y e) (gcd-left (gcd (natAbs x) (natAbs y)) e) (gcd-left (natAbs x) (natAbs y))
+
+  pub divides-y : common x y e ∣ natAbs y
+  divides-y = dvd-trans (common x y e) (gcd-left (gcd (natAbs x) (natAbs y)) e) (gcd-right (natAbs x) (natAbs y))
+
+  pub divides-e : common x y e ∣ e
+  divides-e = gcd-right (gcd (natAbs x) (natAbs y)) e
+
+  pub common-greatest : (d : ℕ) → d ∣ natAbs x → d ∣ natAbs y → d ∣ e → d ∣ common x y e
+  common-greatest d p q r = gcd-greatest (gcd (natAbs x) (natAbs y)) e d (gcd-greatest (natAbs x) (natAbs y) d p q) r
+
+  pub common-pos : 0 < e → 0 < common x y e
+  common-pos h = pos-of-dvd-of-pos divides-e h
+
+  pub common-le : 0 < e → common x y e ≤ e
+  common-le h = le-of-dvd h divides-e
+
+-- d divides n / g, so d * g divides n
+scaled : (d g n : ℕ) → g ∣ n → d ∣ n / g → d * g ∣ n
+scaled d g n p q = subst (λ (m : ℕ). d * g ∣ m) (div-mul-cancel g p) (mul-dvd-mul-right d q g)
+
+pub coprime : (x y : ℤ) (e d : ℕ) → 0 < e → d ∣ natAbs x / common x y e → d ∣ natAbs y / common x y e → d ∣ e / common x y e → d ≡ 1
+coprime x y e d h p q r =
+    let g = common x y e in
+    let all : d * g ∣ g =
+    common-greatest x y e (d * g) (scaled d g (natAbs x) (divides-x x y e) p) (scaled d g (natAbs y) (divides-y x y e) q)
+    (scaled d g e (divides-e x y e) r) in
+    eq-one-of-dvd-one (dvd-of-mul-dvd-mul-right d (common-pos x y e h) (subst (λ (m : ℕ). d * g ∣ m) (sym (one-mul g)) all))
+
+-- ---- the quotients
+
+neg-times : (q g : ℕ) → negℤ (pos q) *ℤ pos g ≡ negℤ (pos (q * g))
+neg-times zero g = ap pos (zero-mul g) ∙ ap (λ (n : ℕ). negℤ (pos n)) (sym (zero-mul g))
+neg-times (suc q) g = refl
+
+pub quot-exact : (z : ℤ) (g : ℕ) → g ∣ natAbs z → quotZ z (pos g) *ℤ pos g ≡ z
+quot-exact (pos n) g h = ap pos (div-mul-cancel g h)
+quot-exact (negsuc n) g h = neg-times (suc n / g) g ∙ ap (λ (m : ℕ). negℤ (pos m)) (div-mul-cancel g h)
+
+pub natAbs-quot : (z : ℤ) (g : ℕ) → natAbs (quotZ z (pos g)) ≡ natAbs z / g
+natAbs-quot (pos n) g = refl
+natAbs-quot (negsuc n) g = abs-neg (pos (suc n / g))
+
+pub lowest-reduced : (x y : ℤ) (e : ℕ) → 0 < e → Reduced (lowest x y e .x) (lowest x y e .y) (lowest x y e .e)
+lowest-reduced x y e h d p q r =
+    let g = common x y e in
+    coprime x y e d h (subst (λ (n : ℕ). d ∣ n) (natAbs-quot x g) p) (subst (λ (n : ℕ). d ∣ n) (natAbs-quot y g) q) r
+
+pub lowest-pos : (x y : ℤ) (e : ℕ) → 0 < e → 0 < lowest x y e .e
+lowest-pos x y e h = quotient-pos (e / common x y e) (subst (λ (n : ℕ). 0 < n) (sym (div-mul-cancel (common x y e) (divides-e x y e))) h)
+  where
+    quotient-pos : (q : ℕ) → 0 < q * common x y e → 0 < q
+    quotient-pos zero p = absurd (not-suc-le-zero (subst (λ (n : ℕ). 0 < n) (zero-mul (common x y e)) p))
+    quotient-pos (suc q) p = zero-lt-suc q
+
+-- a / g over b / g is a over b
+proportion : (a a' b b' g : ℤ) → a' *ℤ g ≡ a → b' *ℤ g ≡ b → a' *ℤ b ≡ a *ℤ b'
+proportion a a' b b' g h k = linear (a ∷ a' ∷ b ∷ b' ∷ g ∷ []) (eqn b' h & eqn (negℤ a') k) (search poly depth 30) tt
+
+pub lowest-proportion : (x y : ℤ) (e : ℕ) → (lowest x y e .x *ℤ pos e ≡ x *ℤ pos (lowest x y e .e)) × (lowest x y e .y *ℤ pos e ≡ y *ℤ pos (lowest x y e .e))
+lowest-proportion x y e = (of x (divides-x x y e), of y (divides-y x y e))
+  where
+    of : (z : ℤ) → common x y e ∣ natAbs z → quotZ z (pos (common x y e)) *ℤ pos e ≡ z *ℤ pos (e / common x y e)
+    of z h =
+        let g = common x y e in
+        proportion z (quotZ z (pos g)) (pos e) (pos (e / g)) (pos g) (quot-exact z g h) (ap pos (div-mul-cancel g (divides-e x y e)))

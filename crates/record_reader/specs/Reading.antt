@@ -1,0 +1,60 @@
+-- The record reader (01: reader, refusal 7).
+--
+--   signedAt n at bs   == the signed number of the n bytes from place `at` on
+--   diskIn bs          == the disk whose four numbers stand in front
+--   pointIn at bs      == the point whose x and y stand from place `at` on
+--   meant a b c        == the points that the three written ones stand for: the last, repeated, counts once
+--   pointsIn bs        == the points whose three stand behind
+--   readOf bs          == what the call answers: the refusal due first, or the disk and the points
+--   outcome r          == document 01's number and values of each answer
+--
+-- That this is the disk and the points whose record the bytes are, and of no other bytes, is said by proofs/RoundTrip.
+use mathlib.Core.Bool.{Bool, true, false, not, _&&_}
+use mathlib.Core.List.{List, [], _∷_}
+use Prim.Native.Nat.{ℕ, _+_}
+use lib.Dec.{eqb}
+use lib.IntN.{ℤ}
+use lib.ListN.{length}
+use Rattle.answers.specs.Outcome.{Outcome, given, refused, numberOf, refuseIf}
+use Rattle.big_endian.specs.Fields.{get}
+use Rattle.big_endian.specs.Twos.{back}
+use Rattle.geometry.specs.declared.Point.{Point}
+use Rattle.geometry.specs.declared.Disk.{Disk}
+use Rattle.integers.specs.Order.{eqZ}
+use Rattle.geometry.specs.Plane.{members}
+use Rattle.validity.specs.Valid.{valid}
+use Rattle.record_writer.specs.Layout.{numberWidth, coordinateWidth, xAt, yAt, eAt, sAt, firstAt, secondAt, thirdAt, recordLength}
+use Rattle.record_reader.specs.declared.Record.{Record}
+use Rattle.record_reader.specs.declared.Record.the-variants.{Read, Refused}
+
+abbrev pub signedAt : ℕ → ℕ → List ℕ → ℤ
+signedAt n at bs = back n (get n 0 at bs)
+
+abbrev pub diskIn : List ℕ → Disk
+diskIn bs = record { x = signedAt numberWidth xAt bs; y = signedAt numberWidth yAt bs; e = get numberWidth 0 eAt bs; s = get numberWidth 0 sAt bs }
+
+abbrev pub pointIn : ℕ → List ℕ → Point
+pointIn at bs = record { x = signedAt coordinateWidth at bs; y = signedAt coordinateWidth (at + coordinateWidth) bs }
+
+unfoldable pub same : Point → Point → Bool
+same p q = eqZ (p .x) (q .x) && eqZ (p .y) (q .y)
+
+unfoldable pub meant : Point → Point → Point → List Point
+meant a b c = count (same b c) (same a b)
+  where
+    count : Bool → Bool → List Point
+    count false s = a ∷ b ∷ c ∷ []
+    count true false = a ∷ b ∷ []
+    count true true = a ∷ []
+
+abbrev pub pointsIn : List ℕ → List Point
+pointsIn bs = meant (pointIn firstAt bs) (pointIn secondAt bs) (pointIn thirdAt bs)
+
+abbrev pub readOf : List ℕ → Outcome (Disk × List Point)
+readOf bs =
+    refuseIf (not (eqb (length bs) recordLength)) 7
+    (refuseIf (not (valid (diskIn bs) (pointsIn bs))) 7 (given (diskIn bs, pointsIn bs)))
+
+abbrev pub outcome : Record → Outcome (Disk × List Point)
+outcome (Read d t) = given (d, members t)
+outcome (Refused r) = refused (numberOf r)

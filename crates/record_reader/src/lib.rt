@@ -1,0 +1,90 @@
+// The record reader.
+ghost use mathlib.Core.Path.{_≡_};
+ghost use Prim.Native.Nat.{_+_, _≤_};
+ghost use lib.ListN.{length};
+ghost use Rattle.geometry.specs.Plane.{members};
+ghost use Rattle.record_writer.specs.Layout.{coordinateWidth, pointWidth, firstAt, recordLength};
+ghost use Rattle.record_reader.specs.Reading.{signedAt, diskIn, pointIn, same, meant, pointsIn, readOf, outcome};
+use answers::Refusal;
+use geometry::Disk;
+use geometry::Point;
+use geometry::SupportSet;
+
+pub enum Record {
+    Read(Disk, SupportSet),
+    Refused(Refusal),
+}
+
+fn get_disk(bytes: &[u8]) -> Disk
+    requires { ⌜ firstAt ≤ length (now bytes) ⌝ }
+    ensures { λ r. ⌜ r ≡ diskIn (now (bytes .entry)) ⌝ }
+{
+    let x = big_endian::get_signed_at(bytes, record_writer::X_AT, record_writer::NUMBER_WIDTH);
+    let y = big_endian::get_signed_at(bytes, record_writer::Y_AT, record_writer::NUMBER_WIDTH);
+    let e = big_endian::get_at(bytes, record_writer::E_AT, record_writer::NUMBER_WIDTH);
+    let s = big_endian::get_at(bytes, record_writer::S_AT, record_writer::NUMBER_WIDTH);
+    Disk { x, y, e, s }
+}
+
+fn get_coordinate(bytes: &[u8], at: usize) -> i16
+    requires { ⌜ at + coordinateWidth ≤ length (now bytes) ⌝ }
+    ensures { λ r. ⌜ r ≡ signedAt coordinateWidth at (now (bytes .entry)) ⌝ }
+{
+    let u = big_endian::get_at(bytes, at, record_writer::COORDINATE_WIDTH);
+    big_endian::of_bits(u, record_writer::COORDINATE_WIDTH) as i16
+}
+
+fn get_point(bytes: &[u8], at: usize) -> Point
+    requires { ⌜ at + pointWidth ≤ length (now bytes) ⌝ }
+    ensures { λ r. ⌜ r ≡ pointIn at (now (bytes .entry)) ⌝ }
+{
+    let x = get_coordinate(bytes, at);
+    let y = get_coordinate(bytes, at + record_writer::COORDINATE_WIDTH);
+    Point { x, y }
+}
+
+fn is_same(p: Point, q: Point) -> bool
+    ensures { λ r. ⌜ r ≡ same p q ⌝ }
+{
+    if p.x == q.x {
+        return p.y == q.y;
+    }
+    false
+}
+
+// The points that three written ones stand for.
+fn without_repeats(a: Point, b: Point, c: Point) -> SupportSet
+    ensures { λ r. ⌜ members r ≡ meant a b c ⌝ }
+{
+    if is_same(b, c) {
+        if is_same(a, b) {
+            return SupportSet::One(a);
+        }
+        return SupportSet::Two(a, b);
+    }
+    SupportSet::Three(a, b, c)
+}
+
+fn get_points(bytes: &[u8]) -> SupportSet
+    requires { ⌜ recordLength ≤ length (now bytes) ⌝ }
+    ensures { λ r. ⌜ members r ≡ pointsIn (now (bytes .entry)) ⌝ }
+{
+    let a = get_point(bytes, record_writer::FIRST_AT);
+    let b = get_point(bytes, record_writer::SECOND_AT);
+    let c = get_point(bytes, record_writer::THIRD_AT);
+    without_repeats(a, b, c)
+}
+
+// The disk and the support set whose record the bytes are.
+pub fn read_record(bytes: &[u8]) -> Record
+    ensures { λ r. ⌜ outcome r ≡ readOf (now (bytes .entry)) ⌝ }
+{
+    if bytes.len() == record_writer::RECORD_LENGTH {
+        let d = get_disk(bytes);
+        let t = get_points(bytes);
+        if validity::is_valid(d, t) {
+            return Record::Read(d, t);
+        }
+    }
+    Record::Refused(Refusal::BadRecord)
+}

@@ -1,0 +1,87 @@
+-- The lengths of a record's parts, and the parts stored one behind another.
+--
+--   diskBytes-length, pointBytes-length, pointsBytes-length : those of the layout
+--   members-counted       : a support set has one to three points
+--   not-four              : one to three points are no more
+--   madeThree-length      : one to three points are made three
+--   recordBytes-length    : a record has `recordLength` bytes
+--   three-stored          : three points stored one by one are stored together
+--   record-stored         : the disk and the points stored are the record in front, and the rest as it was
+use mathlib.Core.Path.{_≡_, refl, sym, ap, ap₂, _∙_, subst}
+use mathlib.Core.Bool.{true, true≢false}
+use mathlib.Core.List.{List, [], _∷_, _++_, append-nil}
+use Prim.Native.Nat.{ℕ, suc, _+_, _*_, _≤_}
+use native.Mathlib.Omega.{arith}
+use borrow.Author.Tests.{leb-true}
+use lib.Dec.{leb}
+use lib.ListN.{length, length-append, drop}
+use lib.Seq.{sets, sets-eq}
+use Rattle.big_endian.proofs.ByteLists.{bytesOf-length}
+use Rattle.integers.proofs.Tests.{rest}
+use Rattle.geometry.specs.declared.Point.{Point}
+use Rattle.geometry.specs.declared.Disk.{Disk}
+use Rattle.geometry.specs.declared.SupportSet.{SupportSet}
+use Rattle.geometry.specs.declared.SupportSet.the-variants.{One, Two, Three}
+use Rattle.geometry.specs.Plane.{members}
+use Rattle.validity.specs.Valid.{oneToThree}
+use Rattle.record_writer.specs.Layout.{recordLength, firstAt, pointWidth, xAt, secondAt, thirdAt}
+use Rattle.record_writer.specs.Bytes.{diskBytes, pointBytes, pointsBytes, madeThree, recordBytes}
+use Rattle.big_endian.proofs.Stores.{sets-append}
+
+pub diskBytes-length : (d : Disk) → length (diskBytes d) ≡ firstAt
+diskBytes-length d = simp (length-append, bytesOf-length)
+
+pub pointBytes-length : (p : Point) → length (pointBytes p) ≡ pointWidth
+pointBytes-length p = simp (length-append, bytesOf-length)
+
+pub pointsBytes-length : (ps : List Point) → length (pointsBytes ps) ≡ pointWidth * length ps
+pointsBytes-length [] = refl
+pointsBytes-length (p ∷ ps) =
+    length-append (pointBytes p) (pointsBytes ps) ∙ ap₂ _+_ (pointBytes-length p) (pointsBytes-length ps) ∙ four (length ps)
+  where
+    four : (n : ℕ) → pointWidth + pointWidth * n ≡ pointWidth * suc n
+    four n = omega arith
+
+pub members-counted : (t : SupportSet) → oneToThree (members t) ≡ true
+members-counted (One a) = refl
+members-counted (Two a b) = refl
+members-counted (Three a b c) = refl
+
+pub not-four : (a b c p : Point) (ps : List Point) → oneToThree (a ∷ b ∷ c ∷ p ∷ ps) ≡ true → ⊥
+not-four a b c p ps h =
+    let n = suc (suc (suc (suc (length ps)))) in
+    let few : n ≤ 3 = leb-true n 3 (rest (leb 1 n) (leb n 3) h) in omega arith
+
+pub madeThree-length : (ps : List Point) → oneToThree ps ≡ true → length (madeThree ps) ≡ 3
+madeThree-length [] h = absurd (true≢false (sym h))
+madeThree-length (a ∷ []) h = refl
+madeThree-length (a ∷ b ∷ []) h = refl
+madeThree-length (a ∷ b ∷ c ∷ []) h = refl
+madeThree-length (a ∷ b ∷ c ∷ p ∷ ps) h = absurd (not-four a b c p ps h)
+
+pub recordBytes-length : (d : Disk) (ps : List Point) → oneToThree ps ≡ true → length (recordBytes d ps) ≡ recordLength
+unfolding recordBytes
+recordBytes-length d ps h =
+    length-append (diskBytes d) (pointsBytes (madeThree ps))
+    ∙ ap₂ _+_ (diskBytes-length d) (pointsBytes-length (madeThree ps) ∙ ap (λ (n : ℕ). pointWidth * n) (madeThree-length ps h))
+
+-- ---- stored in a buffer
+
+pub three-stored : (l : List ℕ) (a b c : Point)
+    → sets (sets (sets l firstAt (pointBytes a)) secondAt (pointBytes b)) thirdAt (pointBytes c) ≡ sets l firstAt (pointsBytes (a ∷ b ∷ c ∷ []))
+three-stored l a b c =
+    let p = pointBytes a in
+    let q = pointBytes b in
+    let r = pointBytes c in
+    ap (sets (sets (sets l firstAt p) secondAt q) thirdAt) (sym (append-nil r))
+    ∙ sym (sets-append (sets l firstAt p) secondAt q (r ++ []) pointWidth (pointBytes-length b))
+    ∙ sym (sets-append l firstAt p (q ++ (r ++ [])) pointWidth (pointBytes-length a))
+
+pub record-stored : (l : List ℕ) (d : Disk) (ps : List Point) → oneToThree ps ≡ true → recordLength ≤ length l
+    → sets (sets l xAt (diskBytes d)) firstAt (pointsBytes (madeThree ps)) ≡ recordBytes d ps ++ drop recordLength l
+unfolding recordBytes
+record-stored l d ps h room =
+    let e : length (recordBytes d ps) ≡ recordLength = recordBytes-length d ps h in
+    sym (sets-append l xAt (diskBytes d) (pointsBytes (madeThree ps)) firstAt (diskBytes-length d))
+    ∙ sets-eq (recordBytes d ps) l xAt (subst (λ (n : ℕ). xAt + n ≤ length l) (sym e) room)
+    ∙ ap (λ (n : ℕ). recordBytes d ps ++ drop (xAt + n) l) e

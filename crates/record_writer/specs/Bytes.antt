@@ -1,0 +1,38 @@
+-- The bytes of a record (01, "Description, sheet, record").
+--
+--   signed n z         == the n bytes of z, signed, high byte first
+--   diskBytes d        == X, Y (signed), E, S
+--   pointsBytes ps     == x and y of each point, signed
+--   madeThree ps       == three points: if there are one or two, the last is repeated
+--   recordBytes d ps   == the record of the disk d and the points ps
+use mathlib.Core.List.{List, [], _∷_, _++_}
+use Prim.Native.Nat.{ℕ}
+use lib.IntN.{ℤ}
+use Rattle.big_endian.specs.Fields.{bytesOf}
+use Rattle.big_endian.specs.Twos.{twos}
+use Rattle.geometry.specs.declared.Point.{Point}
+use Rattle.geometry.specs.declared.Disk.{Disk}
+use Rattle.record_writer.specs.Layout.{numberWidth, coordinateWidth}
+
+abbrev pub signed : ℕ → ℤ → List ℕ
+signed n z = bytesOf n (twos n z)
+
+abbrev pub diskBytes : Disk → List ℕ
+diskBytes d = signed numberWidth (d .x) ++ signed numberWidth (d .y) ++ bytesOf numberWidth (d .e) ++ bytesOf numberWidth (d .s)
+
+abbrev pub pointBytes : Point → List ℕ
+pointBytes p = signed coordinateWidth (p .x) ++ signed coordinateWidth (p .y)
+
+abbrev pub pointsBytes : List Point → List ℕ
+pointsBytes [] = []
+pointsBytes (p ∷ ps) = pointBytes p ++ pointsBytes ps
+
+-- a support set has a point: the first clause is never reached
+abbrev pub madeThree : List Point → List Point
+madeThree [] = []
+madeThree (a ∷ []) = a ∷ a ∷ a ∷ []
+madeThree (a ∷ b ∷ []) = a ∷ b ∷ b ∷ []
+madeThree (a ∷ b ∷ c ∷ ps) = a ∷ b ∷ c ∷ ps
+
+unfoldable pub recordBytes : Disk → List Point → List ℕ
+recordBytes d ps = diskBytes d ++ pointsBytes (madeThree ps)

@@ -1,0 +1,104 @@
+// The record's layout (01: "A record has 44 bytes"), and the record writer.
+ghost use mathlib.Core.Path.{_≡_};
+ghost use mathlib.Core.List.{[], _∷_};
+ghost use Prim.Native.Nat.{_+_, _≤_};
+ghost use lib.ListN.{length};
+ghost use lib.Seq.{sets};
+ghost use Rattle.geometry.specs.Plane.{members};
+ghost use Rattle.record_writer.specs.Layout.{xAt, firstAt, pointWidth, recordLength};
+ghost use Rattle.record_writer.specs.Bytes.{diskBytes, pointBytes, pointsBytes, madeThree};
+ghost use Rattle.record_writer.specs.Writing.{writeOf, bufferAfter, outcome};
+use answers::Refusal;
+use geometry::Disk;
+use geometry::Point;
+use geometry::SupportSet;
+
+// Where the fields stand, and how wide they are.
+pub const NUMBER_WIDTH: usize = 8;
+
+pub const COORDINATE_WIDTH: usize = 2;
+
+pub const X_AT: usize = 0;
+
+pub const Y_AT: usize = 8;
+
+pub const E_AT: usize = 16;
+
+pub const S_AT: usize = 24;
+
+pub const FIRST_AT: usize = 32;
+
+pub const SECOND_AT: usize = 36;
+
+pub const THIRD_AT: usize = 40;
+
+pub const RECORD_LENGTH: usize = 44;
+
+pub enum Written {
+    Done,
+    Refused(Refusal),
+}
+
+// X, Y, E and S.
+fn put_disk(buf: &mut [u8], d: Disk)
+    requires { ⌜ firstAt ≤ length (now buf) ⌝ }
+    ensures { λ _. ⌜ now (buf .exit) ≡ sets (now (buf .entry)) xAt (diskBytes d) ⌝ }
+{
+    let x = d.x;
+    let y = d.y;
+    big_endian::put_signed_at(buf, X_AT, NUMBER_WIDTH, x);
+    big_endian::put_signed_at(buf, Y_AT, NUMBER_WIDTH, y);
+    big_endian::put_at(buf, E_AT, NUMBER_WIDTH, d.e);
+    big_endian::put_at(buf, S_AT, NUMBER_WIDTH, d.s);
+}
+
+// x and y.
+fn put_point(buf: &mut [u8], at: usize, p: Point)
+    requires { ⌜ at + pointWidth ≤ length (now buf) ⌝ }
+    ensures { λ _. ⌜ now (buf .exit) ≡ sets (now (buf .entry)) at (pointBytes p) ⌝ }
+{
+    big_endian::put_signed_at(buf, at, COORDINATE_WIDTH, geometry::wide(p.x));
+    big_endian::put_signed_at(
+        buf,
+        at + COORDINATE_WIDTH,
+        COORDINATE_WIDTH,
+        geometry::wide(p.y),
+    );
+}
+
+fn put_three(buf: &mut [u8], a: Point, b: Point, c: Point)
+    requires { ⌜ recordLength ≤ length (now buf) ⌝ }
+    ensures { λ _. ⌜ now (buf .exit) ≡ sets (now (buf .entry)) firstAt (pointsBytes (a ∷ b ∷ c ∷ [])) ⌝ }
+{
+    put_point(buf, FIRST_AT, a);
+    put_point(buf, SECOND_AT, b);
+    put_point(buf, THIRD_AT, c);
+}
+
+// Three points; the last is repeated where there are fewer.
+fn put_points(buf: &mut [u8], t: SupportSet)
+    requires { ⌜ recordLength ≤ length (now buf) ⌝ }
+    ensures { λ _. ⌜ now (buf .exit) ≡ sets (now (buf .entry)) firstAt (pointsBytes (madeThree (members t))) ⌝ }
+{
+    match t {
+        SupportSet::One(a) => put_three(buf, a, a, a),
+        SupportSet::Two(a, b) => put_three(buf, a, b, b),
+        SupportSet::Three(a, b, c) => put_three(buf, a, b, c),
+    }
+}
+
+// Writes the record of d and t to the first bytes of buf and leaves the rest.
+pub fn write_record(d: Disk, t: SupportSet, buf: &mut [u8]) -> Written
+    ensures { λ r. ⌜ outcome r ≡ writeOf d (members t) (now (buf .entry)) ⌝ }
+    ensures { λ r. ⌜ now (buf .exit) ≡ bufferAfter d (members t) (now (buf .entry)) ⌝ }
+{
+    if buf.len() < RECORD_LENGTH {
+        return Written::Refused(Refusal::NoRoom);
+    }
+    if validity::is_valid(d, t) {
+        put_disk(buf, d);
+        put_points(buf, t);
+        return Written::Done;
+    }
+    Written::Refused(Refusal::BadRecord)
+}

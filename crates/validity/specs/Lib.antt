@@ -1,0 +1,3 @@
+pub mod Valid
+-- of inner contracts
+pub mod Narrow
