@@ -8,7 +8,7 @@ use mathlib.Core.List.{[]}
 use Prim.Native.Nat.{ℕ, zero, suc}
 use Rattle.geometry.specs.declared.Point.{Point}
 use Rattle.geometry.specs.declared.Disk.{Disk}
-use Rattle.validity.specs.Valid.{valid, validDisk, validPoints}
+use Rattle.validity.specs.Valid.{validIn, validPointsIn, validDisk, valid}
 use Rattle.c_types.specs.Support.{counted}
 
 pub other-size : (n : ℕ) (a b c : Point) → (n ≡ 1 → ⊥) → (n ≡ 2 → ⊥) → (n ≡ 3 → ⊥) → [] ≡ counted n a b c
@@ -24,5 +24,5 @@ and-false true = refl
 and-false false = refl
 
 pub no-points : (d : Disk) → valid d [] ≡ false
-unfolding valid validPoints
+unfolding validIn validPointsIn
 no-points d = and-false (validDisk d)
