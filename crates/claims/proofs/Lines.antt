@@ -15,7 +15,8 @@ use Rattle.answers.specs.Outcome.{given}
 use Rattle.answers.proofs.OutcomeLaws.{not-given, not-refused}
 use Rattle.geometry.specs.declared.Point.{Point}
 use Rattle.geometry.specs.EmBox.{inEmBox}
-use Rattle.description.specs.Description.{Line, blank, point, fault, pointsOn, byLine}
+use Rattle.lines.specs.Line.{Line, blank, point, fault}
+use Rattle.description.specs.Description.{pointsOn, byLine}
 
 abbrev pub NoFault : List Line → Type 0
 NoFault ls = (i : Line) → List·Memᴰ i ls → i ≡ fault → ⊥

@@ -22,7 +22,8 @@ use Rattle.geometry.specs.declared.Disk.{Disk}
 use Rattle.geometry.specs.EmBox.{inEmBox, allInEmBox}
 use Rattle.geometry.specs.Points.{points}
 use Rattle.description.specs.Description as description
-use Rattle.description.specs.Description.{Line, fault, linesRead, named, loadOf}
+use Rattle.lines.specs.Line.{Line, fault}
+use Rattle.description.specs.Description.{linesRead, named, loadOf}
 use Rattle.sheet.specs.Sheet.{count, directoryEnd, pairs, follow, glyphOf}
 use Rattle.engine.specs.Engine.{encloseOf, listAfter}
 use Rattle.preview.specs.Preview.{previewOf}

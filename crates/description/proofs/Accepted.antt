@@ -24,7 +24,8 @@ use Rattle.geometry.specs.EmBox.{inEmBox}
 use Rattle.geometry.specs.Points.{points, flat, firstPoints}
 use Rattle.answers.proofs.OutcomeLaws.{not-given, given-same, not-refused}
 use Rattle.geometry.proofs.PointLists.{length-flat, points-of-flat}
-use Rattle.description.specs.Description.{Line, blank, point, fault, linesRead, pointsOn, named, byLine, loadOf, listAfter}
+use Rattle.lines.specs.Line.{Line, blank, point, fault}
+use Rattle.description.specs.Description.{linesRead, pointsOn, named, byLine, loadOf, listAfter}
 use Rattle.description.proofs.Loading.{load-judged, after-given}
 
 -- ---- the lines

@@ -23,10 +23,13 @@ use Rattle.geometry.specs.declared.Point.{Point}
 use Rattle.geometry.specs.EmBox.{inEmBox}
 use Rattle.geometry.specs.Points.{flat}
 use Rattle.description.specs.declared.Step.the-variants as Step
-use Rattle.description.specs.Description.{pieces, Line, blank, point, fault, lineOf, linesRead, pointsOn, named, byLine}
-use Rattle.description.specs.Scan.{isFeed, from, firstLine, afterLine, Reaches, StepAt}
-use Rattle.description.proofs.Places.{drop-at}
-use Rattle.description.proofs.Words.{lines-first}
+use Rattle.lines.specs.Line.{pieces, Line, blank, point, fault, lineOf}
+use Rattle.description.specs.Description.{linesRead, pointsOn, named, byLine}
+use Rattle.numerals.specs.Places.{isFeed, from, Reaches}
+use Rattle.lines.specs.LineAt.{firstLine, afterLine}
+use Rattle.description.specs.Verdict.{StepAt}
+use Rattle.numerals.proofs.Places.{drop-at}
+use Rattle.lines.proofs.Words.{lines-first}
 
 -- ---- the first line
 

@@ -1,2 +1,3 @@
 pub mod Description
-pub mod Scan
+-- of inner contracts
+pub mod Verdict

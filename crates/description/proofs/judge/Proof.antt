@@ -13,7 +13,7 @@ use lib.ListN.{length, drop}
 use Rattle.answers.specs.Outcome.{given, refuseIf}
 use Rattle.description.specs.declared.Step.the-variants as Step
 use Rattle.description.specs.Description.{linesRead, byLine}
-use Rattle.description.specs.Scan.{StepAt}
+use Rattle.description.specs.Verdict.{StepAt}
 use Rattle.description.proofs.Judging.{Judging, next-further, judging-start, judging-pass, judging-keep, judging-over, judging-kept}
 use Rattle.description.proofs.judge.Statement.{statement}
 use Rattle.description.proofs.judge.Tie as tie

@@ -5,8 +5,8 @@ use borrow.Author.Needs.{needs}
 use borrow.Author.Tests.{not-true, not-false}
 use lib.ListN.{drop}
 use Rattle.geometry.specs.EmBox.{inEmBox}
-use Rattle.description.specs.declared.Scanned.the-variants as Scanned
-use Rattle.description.specs.Scan.{LineAt}
+use Rattle.lines.specs.declared.Scanned.the-variants as Scanned
+use Rattle.lines.specs.LineAt.{LineAt}
 use Rattle.description.proofs.Judging.{judge-fault, judge-outside, judge-many}
 use Rattle.description.proofs.judge_line.Statement.{statement}
 use Rattle.description.proofs.judge_line.Tie as tie

@@ -8,7 +8,7 @@ use Rattle.answers.specs.Outcome.{given, refused, numberOf}
 use Rattle.geometry.specs.Points.{flat}
 use Rattle.description.specs.declared.Loaded.{Loaded}
 use Rattle.description.specs.Description.{named, loadOf, outcome}
-use Rattle.description.specs.Scan.{Kept}
+use Rattle.description.specs.Verdict.{Kept}
 use Rattle.description.proofs.Loading.{load-no-room, load-long, load-judged, after-refused, after-given, front-pasted}
 use Rattle.description.proofs.load.Statement.{statement}
 use Rattle.description.proofs.load.Tie as tie

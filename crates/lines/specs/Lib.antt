@@ -1,0 +1,3 @@
+pub mod Line
+-- of inner contracts
+pub mod LineAt

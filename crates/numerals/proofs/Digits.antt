@@ -1,0 +1,83 @@
+-- Numbers, digit by digit.
+--
+--   more k v ds         == the value of the digits ds behind k digits of the value v, 1 to 4 in all
+--   more-digit          : one digit read
+--   more-end            : 1 to 4 digits read and nothing left
+--   more-empty, more-long, more-other : no digit, a fifth, and a byte that is none
+--   numeral-minus, numeral-plain : a number by its first byte
+--   grown, fewer-digits : k digits have a value below 10 ^ k
+use Prim.Native.Nat.{ℕ, suc, _+_, _-_, _*_, _^_, _≤_, _<_}
+use mathlib.Core.Path.{_≡_, refl, sym}
+use mathlib.Core.Bool.{Bool, true, false, _&&_, true≢false}
+use mathlib.Core.List.{List, [], _∷_}
+use mathlib.Core.Option.{Option, none, some, Option·map}
+use native.Mathlib.Nat.{zero-add, add-zero, add-suc, suc-add, pow-suc, pow-le-pow-right, lt-of-lt-of-le}
+use native.Mathlib.Numerals.{add-one}
+use native.Mathlib.Omega.{arith}
+use lib.Dec.{leb}
+use lib.IntN.{pos, negℤ}
+use lib.ListN.{length, drop}
+use borrow.Author.Tests.{le-leb, lt-leb, eqb-true}
+use Rattle.integers.proofs.Tests.{stop}
+use Rattle.numerals.specs.Numeral.{isDigit, allDigits, decimal, someIf, digits, numeral}
+use Rattle.numerals.specs.Places.{isByte, endsWord, upTo, starts, word}
+
+pub more : ℕ → ℕ → List ℕ → Option ℕ
+more k v ds = someIf (leb 1 (k + length ds) && (leb (k + length ds) 4 && allDigits ds)) (decimal v ds)
+
+pub more-start : (ds : List ℕ) → more 0 0 ds ≡ digits ds
+unfolding more digits
+more-start ds = rw (zero-add (length ds))
+
+pub more-digit : (k v b : ℕ) (ds : List ℕ) → isDigit b ≡ true → more k v (b ∷ ds) ≡ more (k + 1) (10 * v + (b - 48)) ds
+unfolding more allDigits decimal
+more-digit k v b ds h = rw (h, add-suc k (length ds), add-one, suc-add)
+
+pub more-end : (k v : ℕ) → 1 ≤ k → k ≤ 4 → more k v [] ≡ some v
+unfolding more allDigits decimal
+more-end k v l h = rw (add-zero, le-leb 1 k l, le-leb k 4 h)
+
+pub more-empty : (v : ℕ) → more 0 v [] ≡ none
+unfolding more
+more-empty v = refl
+
+pub more-long : (k v b : ℕ) (ds : List ℕ) → 4 ≤ k → more k v (b ∷ ds) ≡ none
+unfolding more
+more-long k v b ds h =
+    let some-there : 1 ≤ k + suc (length ds) = omega arith in
+    let too-long : 4 < k + suc (length ds) = omega arith in
+    rw (le-leb 1 (k + suc (length ds)) some-there, lt-leb (k + suc (length ds)) 4 too-long)
+
+none-if : {A : Type 0} (p q r : Bool) (a : A) → r ≡ false → someIf (p && (q && r)) a ≡ none
+none-if true true r a h = rw h
+none-if true false r a h = refl
+none-if false q r a h = refl
+
+pub more-other : (k v b : ℕ) (ds : List ℕ) → isDigit b ≡ false → more k v (b ∷ ds) ≡ none
+unfolding more allDigits
+more-other k v b ds h = none-if (leb 1 (k + suc (length ds))) (leb (k + suc (length ds)) 4) (isDigit b && allDigits ds) (decimal v (b ∷ ds)) (sym (stop (allDigits ds) h))
+
+-- ---- the sign
+
+pub numeral-minus : (bs : List ℕ) → starts (isByte 45) bs ≡ true → numeral (word bs) ≡ Option·map (λ (v : ℕ). negℤ (pos v)) (digits (word (drop 1 bs)))
+unfolding numeral starts upTo
+numeral-minus [] h = absurd (true≢false (sym h))
+numeral-minus (b ∷ bs) h = rw (eqb-true b 45 h)
+
+plain-step : (t : Bool) (b : ℕ) (bs : List ℕ) → endsWord b ≡ t → isByte 45 b ≡ false → numeral (word (b ∷ bs)) ≡ Option·map pos (digits (word (b ∷ bs)))
+unfolding numeral digits upTo
+plain-step true b bs e h = rw e
+plain-step false b bs e h = rw (e, h)
+
+pub numeral-plain : (bs : List ℕ) → starts (isByte 45) bs ≡ false → numeral (word bs) ≡ Option·map pos (digits (word bs))
+unfolding numeral digits starts upTo
+numeral-plain [] h = refl
+numeral-plain (b ∷ bs) h = plain-step (endsWord b) b bs refl h
+
+-- ---- the value's bound
+
+pub grown : (k v d : ℕ) → v < 10 ^ k → d ≤ 9 → 10 * v + d < 10 ^ (k + 1)
+grown k v d h l = rw (add-one, pow-suc) (omega arith)
+
+pub fewer-digits : (m k v : ℕ) → v < 10 ^ k → k ≤ m → v < 10 ^ m
+fewer-digits m k v h l = lt-of-lt-of-le h (pow-le-pow-right {n = 10} (omega arith) {i = k} {j = m} l)

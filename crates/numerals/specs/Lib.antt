@@ -1,0 +1,3 @@
+pub mod Numeral
+-- of inner contracts
+pub mod Places
