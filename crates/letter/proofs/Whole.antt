@@ -1,7 +1,8 @@
 -- What a description worked whole comes to.
 --
 --   enclosed-flat      : the engine, given the points of a list alone, refuses none of 1 to 4,096 points in the em box
---   enclosure-given, enclosure-refused : loader, then engine: only the loader refuses
+--   enclosure-loaded   : loader, then engine, by what the loader gives
+--   enclosure-given, enclosure-refused : of these only the loader refuses
 --   enclosure-valid    : the writer takes what they give
 --   letter-short       : a short buffer is refused first
 --   letter-given, letter-refused : in one that is long enough the letter is what loader and engine give, or their refusal
@@ -67,10 +68,10 @@ module _ (text : List ℕ) (list : List ℤ) where
   pub enclosure-given : (n : ℕ) → loadOf text list ≡ given n → enclosureIn text list ≡ given (enclosure (named text))
   enclosure-given n loads =
       let count = accepted-count text list n loads in
-      enclosure-loaded n loads
-      ∙ ap encloseOf (accepted-front text list n loads)
-      ∙ enclosed-flat (named text) (subst (λ (k : ℕ). 1 ≤ k) count (accepted-some text list n loads)) (subst (λ (k : ℕ). k ≤ 4096) count (accepted-few text list n loads))
-      (members-box (named text) (λ p i. true-test (accepted-in-box text list n loads p i)))
+      let some = subst (λ (k : ℕ). 1 ≤ k) count (accepted-some text list n loads) in
+      let few = subst (λ (k : ℕ). k ≤ 4096) count (accepted-few text list n loads) in
+      let boxed = members-box (named text) (λ p i. true-test (accepted-in-box text list n loads p i)) in
+      enclosure-loaded n loads ∙ ap encloseOf (accepted-front text list n loads) ∙ enclosed-flat (named text) some few boxed
 
   pub enclosure-valid : (e : Enclosure) → enclosureIn text list ≡ given e → valid (e .disk) (e .support) ≡ true
   enclosure-valid e h = by-load (loadOf text list) refl

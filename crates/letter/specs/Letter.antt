@@ -4,6 +4,7 @@
 --   enclosureIn text list   == loader, lent the list; then engine, which is given the loader's points alone
 --   enclosureOf text        == the same in a list of its own
 --   Letter                  == what a description comes to: the number of tests, and the bytes of its record
+--   letter e                == the letter of the enclosure e
 --   letterOf text           == the letter of a description, or the refusal of the first call that refuses
 --   letterIn text buf       == the same, its record to be written into buf: 8 first, where the buffer lacks room for a record
 --   testsIn o               == the tests of the letter, or the refusal

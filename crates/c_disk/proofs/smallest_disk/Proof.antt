@@ -29,8 +29,10 @@ same-length c = search needs
 returns : tie.Need-returns
 returns c =
     let found = c .before .before in
-    let engine = found .before .before .before .smallest-disk in (
-      ap (λ (t : Support). record { refusal = 0; disk = found .enclosed .given .0 .0; support = t; tests = found .enclosed .given .0 .1 .1 .0 }) (c .support-of .ensures)
+    let engine = found .before .before .before .smallest-disk in
+    let d = found .enclosed .given .0 .0 in
+    let n = found .enclosed .given .0 .1 .1 .0 in (
+      ap (λ (t : Support). record { refusal = 0; disk = d; support = t; tests = n }) (c .support-of .ensures)
           ∙ known-outcome outcome diskAnswer (found .enclosed .given .1) (engine .ensures .0),
       engine .ensures .1,
     )

@@ -13,9 +13,10 @@ use Rattle.listing.proofs.main.Tie as tie
 -- what was read lies within the buffer
 read-within : (c : tie.After-known-told) → c .before .n .given .0 .0 ≤ length (c .before .before .before .before .read-all .last .0)
 read-within c =
-    let r = c .before .before .before .before .read-all in
-    let h = subst (λ (i : Input). Holds i (length (c .before .before .before .before .before .before .large-buffer .result))) (c .before .n .given .1) (r .ensures) in
-    omega (arith, h, r .kept .0)
+    let read = c .before .before .before .before in
+    let size = length (read .before .before .large-buffer .result) in
+    let h = subst (λ (i : Input). Holds i size) (c .before .n .given .1) (read .read-all .ensures) in
+    omega (arith, h, read .read-all .kept .0)
 
 large-buffer-requires : tie.Need-large-buffer-requires
 large-buffer-requires c κs = search needs
@@ -33,7 +34,7 @@ array-share-prefix-text : tie.Need-array-share-prefix-text
 array-share-prefix-text c = read-within c
 
 slice-aggregate-print-description : tie.Need-slice-aggregate-print-description
-slice-aggregate-print-description c = sym (length-take-le (c .before .before .n .given .0 .0) (c .before .before .before .before .before .read-all .last .0) (read-within (c .before)))
+slice-aggregate-print-description c = sym (length-take-le _ _ (read-within (c .before)))
 
 print-description-requires : tie.Need-print-description-requires
 print-description-requires c κs = search needs
