@@ -15,7 +15,7 @@ use lib.ListN.{length, set}
 use lib.Seq.{sets}
 use lib.Signed.{mag}
 use Rattle.big_endian.specs.Fields.{bytesOf, put}
-use Rattle.big_endian.specs.Twos.{Width}
+use Rattle.twos_complement.specs.Twos.{Width}
 
 pub sets-append : (l : List ℕ) (i : ℕ) (us vs : List ℕ) (n : ℕ) → length us ≡ n → sets l i (us ++ vs) ≡ sets (sets l i us) (i + n) vs
 sets-append l i us vs n e = go l i us ∙ ap (λ (k : ℕ). sets (sets l i us) (i + k) vs) e

@@ -88,7 +88,7 @@ pub fn number_at(bytes: &[u8], at: usize) -> i16 {
     if bytes.len() - 2 < at {
         return 0;
     }
-    big_endian::of_bits(big_endian::get_at(bytes, at, 2), 2) as i16
+    twos_complement::of_bits(big_endian::get_at(bytes, at, 2), 2) as i16
 }
 
 // Fills the list with signed numbers of 2 bytes each.

@@ -1,6 +1,6 @@
 -- The letters of document 01 hold (specs/Letters.antt), by computing.
 use mathlib.Core.Path.{refl}
-use Rattle.integers.specs.Divisor.{gcd, steps}
+use Rattle.divisors.specs.Divisor.{gcd, steps}
 use Rattle.geometry.specs.EmBox.{allInBox, inBox, inEmBox, allInEmBox}
 use Rattle.geometry.specs.Plane.{holds}
 use Rattle.geometry.specs.Order.{before}

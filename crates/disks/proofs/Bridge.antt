@@ -17,7 +17,7 @@ use lib.IntN.{ℤ, pos, negsuc, negℤ, natAbs, _+ℤ_, _-ℤ_, _*ℤ_}
 use lib.ListN.{length}
 use lib.Signed.{_<ℤ_, ltZ, leZ, quotZ}
 use Rattle.integers.proofs.Tests.{below, not-below}
-use Rattle.integers.specs.Divisor.{gcd, steps}
+use Rattle.divisors.specs.Divisor.{gcd, steps}
 use Rattle.integers.proofs.Ring.{ring, poly}
 use Rattle.integers.proofs.Order.{positive, lt, eq, nn, _⊞_, _⊠_, <-cancel}
 use Rattle.geometry.specs.declared.Point.{Point}

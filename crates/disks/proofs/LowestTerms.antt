@@ -11,9 +11,9 @@ use native.Mathlib.Nat.{mul-le-mul, mul-div-cancel', mul-div-cancel-left}
 use lib.IntN.{ℤ, pos, negsuc, negℤ, natAbs, _+ℤ_, _-ℤ_, _*ℤ_}
 use lib.Signed.{_<ℤ_, quotZ}
 use Rattle.integers.proofs.Laws.{*-comm}
-use Rattle.integers.specs.Divisor.{common, lowest, Reduced}
-use Rattle.integers.proofs.LowestTerms.{common-pos, divides-x, divides-y, divides-e, lowest-reduced, quot-exact}
-use Rattle.integers.specs.declared.Triple.{Triple}
+use Rattle.divisors.specs.Divisor.{common, lowest, Reduced}
+use Rattle.divisors.proofs.LowestTerms.{common-pos, divides-x, divides-y, divides-e, lowest-reduced, quot-exact}
+use Rattle.divisors.specs.declared.Triple.{Triple}
 use Rattle.integers.proofs.Ring.{ring, poly, linear, eqn, _&_}
 use Rattle.integers.proofs.Order.{nn-is, pos-le, le-pos, <-to-≤, ≤-to-<, *-pos, sq, _⊞_}
 use Rattle.geometry.specs.declared.Point.{Point}

@@ -8,7 +8,7 @@ use Prim.Native.Nat.{_*_, _≤_}
 use native.Mathlib.Nat.{mul-le-mul}
 use lib.IntN.{ℤ, pos, natAbs, _+ℤ_, _*ℤ_}
 use lib.Signed.{_≤ℤ_, _<ℤ_}
-use Rattle.integers.proofs.Reduced.{reduced-unique}
+use Rattle.divisors.proofs.Reduced.{reduced-unique}
 use Rattle.integers.proofs.Ring.{poly, linear, eqn, _&_}
 use Rattle.integers.proofs.Order.{≤-antisym, nonneg, le, sq, _⊠_, ≡-cancel}
 use Rattle.geometry.specs.declared.Point.{Point}

@@ -12,11 +12,6 @@ pub mod Linear
 -- signed machine numbers
 pub mod Bounds
 pub mod Complement
-pub mod Quotient
--- common divisors
-pub mod Gcd
-pub mod LowestTerms
-pub mod Reduced
 -- the least number that passes a test
 pub mod LeastLaws
 -- how the solver is used

@@ -1,4 +1,3 @@
 -- Whole numbers as contracts speak of them. The laws, a solver for identities and inequalities, and bounds of machine numbers are in proofs/.
 pub mod Order
-pub mod Divisor
 pub mod Least

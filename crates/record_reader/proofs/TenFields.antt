@@ -18,9 +18,9 @@ use lib.Signed.{mag}
 use mir.Syntax.{w16, w64}
 use Rattle.integers.proofs.Bounds.{v-abs, fits}
 use Rattle.big_endian.specs.Fields.{get}
-use Rattle.big_endian.specs.Twos.{half, twos, back}
+use Rattle.twos_complement.specs.Twos.{half, twos, back}
 use Rattle.big_endian.proofs.ByteLists.{get-lt}
-use Rattle.big_endian.proofs.TwosLaws.{twos-lt, back-twos, twos-back}
+use Rattle.twos_complement.proofs.TwosLaws.{twos-lt, back-twos, twos-back}
 use Rattle.geometry.specs.declared.Point.{Point}
 use Rattle.geometry.specs.declared.Disk.{Disk}
 use Rattle.geometry.specs.EmBox.{em, inEmBox}

@@ -17,7 +17,7 @@ use lib.IntN.{ℤ}
 use lib.ListN.{length}
 use Rattle.answers.specs.Outcome.{Outcome, given, refused, numberOf, refuseIf}
 use Rattle.big_endian.specs.Fields.{get}
-use Rattle.big_endian.specs.Twos.{back}
+use Rattle.twos_complement.specs.Twos.{back}
 use Rattle.geometry.specs.declared.Point.{Point}
 use Rattle.geometry.specs.declared.Disk.{Disk}
 use Rattle.integers.specs.Order.{eqZ}

@@ -31,7 +31,7 @@ fn get_coordinate(bytes: &[u8], at: usize) -> i16
     ensures { λ r. ⌜ r ≡ signedAt coordinateWidth at (now (bytes .entry)) ⌝ }
 {
     let u = big_endian::get_at(bytes, at, record_writer::COORDINATE_WIDTH);
-    big_endian::of_bits(u, record_writer::COORDINATE_WIDTH) as i16
+    twos_complement::of_bits(u, record_writer::COORDINATE_WIDTH) as i16
 }
 
 fn get_point(bytes: &[u8], at: usize) -> Point

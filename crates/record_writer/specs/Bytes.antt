@@ -9,7 +9,7 @@ use mathlib.Core.List.{List, [], _∷_, _++_}
 use Prim.Native.Nat.{ℕ}
 use lib.IntN.{ℤ}
 use Rattle.big_endian.specs.Fields.{bytesOf}
-use Rattle.big_endian.specs.Twos.{twos}
+use Rattle.twos_complement.specs.Twos.{twos}
 use Rattle.geometry.specs.declared.Point.{Point}
 use Rattle.geometry.specs.declared.Disk.{Disk}
 use Rattle.record_writer.specs.Layout.{numberWidth, coordinateWidth}

@@ -19,10 +19,10 @@ use lib.Dec.{T, leb, ltb, lit≤}
 use lib.IntN.{ℤ, pos, natAbs, _*ℤ_}
 use lib.Signed.{leZ}
 use Rattle.integers.specs.Order.{between, _≼_}
-use Rattle.integers.specs.Divisor.{common, Reduced}
+use Rattle.divisors.specs.Divisor.{common, Reduced}
 use Rattle.integers.proofs.Abs.{abs-*}
 use Rattle.integers.proofs.Tests.{between-most, first, rest, both, test-true, true-test}
-use Rattle.integers.proofs.LowestTerms.{divides-x, divides-y, divides-e, common-greatest}
+use Rattle.divisors.proofs.LowestTerms.{divides-x, divides-y, divides-e, common-greatest}
 use Rattle.geometry.specs.declared.Point.{Point}
 use Rattle.geometry.specs.declared.Disk.{Disk}
 use Rattle.geometry.specs.declared.Limits.{Limits}

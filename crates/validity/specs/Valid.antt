@@ -15,7 +15,7 @@ use lib.Dec.{leb, eqb}
 use lib.IntN.{pos, _*ℤ_}
 use lib.ListN.{length}
 use Rattle.integers.specs.Order.{between}
-use Rattle.integers.specs.Divisor.{common}
+use Rattle.divisors.specs.Divisor.{common}
 use Rattle.geometry.specs.declared.Point.{Point}
 use Rattle.geometry.specs.declared.Disk.{Disk}
 use Rattle.geometry.specs.declared.Limits.{Limits}

@@ -93,7 +93,7 @@ fn is_lowest(d: Disk) -> bool
 {
     let x = d.x;
     let y = d.y;
-    integers::common_divisor(x, y, d.e) == 1
+    divisors::common_divisor(x, y, d.e) == 1
 }
 
 // E first: the tests behind it multiply by it.

@@ -227,7 +227,7 @@ fn reduced(x: i64, y: i64, e: u64, s: u64) -> Disk
     requires { ⌜ 0 < e ⌝ ∗ ⌜ e ≤ 20_000_000 ⌝ }
     ensures { λ r. ⌜ r ≡ lowestTerms x y e s ⌝ }
 {
-    let t = integers::lowest_terms(x, y, e);
+    let t = divisors::lowest_terms(x, y, e);
     let g = e / t.e;
     let tx = t.x;
     let ty = t.y;

@@ -4,8 +4,8 @@ use Prim.Native.Nat.{ℕ, _<_}
 use borrow.Author.Needs.{needs}
 use mir.Syntax.{w64}
 use mir.Facts.{toZ-ofZ}
-use Rattle.big_endian.specs.Twos.{back}
-use Rattle.big_endian.proofs.TwosLaws.{halves}
+use Rattle.twos_complement.specs.Twos.{back}
+use Rattle.twos_complement.proofs.TwosLaws.{halves}
 use Rattle.big_endian.proofs.get_signed_at.Statement.{statement}
 use Rattle.big_endian.proofs.get_signed_at.Tie as tie
 

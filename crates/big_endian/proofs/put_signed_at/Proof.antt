@@ -4,7 +4,7 @@ use Prim.Native.Nat.{ℕ}
 use borrow.Author.Needs.{needs}
 use mir.Facts.{toZ-ofZ}
 use Rattle.big_endian.specs.Fields.{put}
-use Rattle.big_endian.specs.Twos.{twos}
+use Rattle.twos_complement.specs.Twos.{twos}
 use Rattle.big_endian.proofs.put_signed_at.Statement.{statement}
 use Rattle.big_endian.proofs.put_signed_at.Tie as tie
 

@@ -4,8 +4,8 @@ use borrow.Author.Needs.{needs}
 use mir.Facts.{toZ-ofZ}
 use mir.Syntax.{w16, w64}
 use mir.Val.{SFits, toZ, ofZ}
-use Rattle.big_endian.specs.Twos.{back}
-use Rattle.big_endian.proofs.TwosLaws.{back-mag}
+use Rattle.twos_complement.specs.Twos.{back}
+use Rattle.twos_complement.proofs.TwosLaws.{back-mag}
 use Rattle.cases.proofs.number_at.Statement.{statement}
 use Rattle.cases.proofs.number_at.Tie as tie
 

@@ -5,8 +5,8 @@ use lib.IntN.{ℤ}
 use mir.Facts.{toZ-ofZ}
 use mir.Syntax.{w16, w64}
 use mir.Val.{SFits, toZ, ofZ}
-use Rattle.big_endian.specs.Twos.{back}
-use Rattle.big_endian.proofs.TwosLaws.{back-mag}
+use Rattle.twos_complement.specs.Twos.{back}
+use Rattle.twos_complement.proofs.TwosLaws.{back-mag}
 use Rattle.record_reader.proofs.get_coordinate.Statement.{statement}
 use Rattle.record_reader.proofs.get_coordinate.Tie as tie
 

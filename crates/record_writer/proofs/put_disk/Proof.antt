@@ -14,7 +14,7 @@ use Rattle.record_writer.specs.Layout.{numberWidth, xAt, yAt, eAt, sAt}
 use Rattle.big_endian.proofs.ByteLists.{bytesOf-length}
 use Rattle.big_endian.proofs.Stores.{put-first, put-next, eight, mag-arrives}
 use Rattle.big_endian.specs.Fields.{bytesOf, put}
-use Rattle.big_endian.specs.Twos.{twos}
+use Rattle.twos_complement.specs.Twos.{twos}
 use Rattle.geometry.specs.declared.Disk.{Disk}
 use Rattle.record_writer.proofs.put_disk.Statement.{statement}
 use Rattle.record_writer.proofs.put_disk.Tie as tie

@@ -10,7 +10,7 @@ use mir.Syntax.{w16}
 use mir.Val.{SFits}
 use Rattle.record_writer.specs.Layout.{coordinateWidth}
 use Rattle.big_endian.specs.Fields.{bytesOf, put}
-use Rattle.big_endian.specs.Twos.{twos}
+use Rattle.twos_complement.specs.Twos.{twos}
 use Rattle.big_endian.proofs.ByteLists.{bytesOf-length}
 use Rattle.geometry.specs.declared.Point.{Point}
 use Rattle.geometry.proofs.Coordinates.{widened}

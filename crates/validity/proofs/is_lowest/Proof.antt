@@ -6,7 +6,7 @@ use lib.Dec.{eqb}
 use lib.IntN.{ℤ}
 use mir.Syntax.{w64}
 use mir.Facts.{toZ-ofZ}
-use Rattle.integers.specs.Divisor.{common}
+use Rattle.divisors.specs.Divisor.{common}
 use Rattle.validity.proofs.is_lowest.Statement.{statement}
 use Rattle.validity.proofs.is_lowest.Tie as tie
 

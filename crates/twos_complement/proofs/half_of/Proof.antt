@@ -1,13 +1,13 @@
--- `big_endian::half_of` meets its contract.
+-- `twos_complement::half_of` meets its contract.
 use mathlib.Core.Path.{ap, _∙_}
 use Prim.Native.Nat.{ℕ, _%_, _^_, _<_}
 use native.Mathlib.Nat.{one-mul, mod-eq-of-lt}
 use native.Mathlib.Omega.{arith}
 use borrow.Author.Needs.{needs}
-use Rattle.big_endian.specs.Twos.{half}
-use Rattle.big_endian.proofs.TwosLaws.{half-le}
-use Rattle.big_endian.proofs.half_of.Statement.{statement}
-use Rattle.big_endian.proofs.half_of.Tie as tie
+use Rattle.twos_complement.specs.Twos.{half}
+use Rattle.twos_complement.proofs.TwosLaws.{half-le}
+use Rattle.twos_complement.proofs.half_of.Statement.{statement}
+use Rattle.twos_complement.proofs.half_of.Tie as tie
 
 mul-result : tie.Need-mul-result
 mul-result c = search needs

@@ -15,11 +15,11 @@ use native.Mathlib.Nat.{dvd-trans, le-of-dvd, pos-of-dvd-of-pos, mul-dvd-mul-rig
 use mathlib.Core.List.{[], _∷_}
 use lib.IntN.{ℤ, pos, negsuc, negℤ, natAbs, _*ℤ_}
 use lib.Signed.{quotZ}
 use Rattle.integers.proofs.Abs.{abs-neg}
-use Rattle.integers.specs.Divisor.{gcd, Reduced, common, lowest}
-use Rattle.integers.proofs.Gcd.{gcd-left, gcd-right, gcd-greatest}
+use Rattle.divisors.specs.Divisor.{gcd, Reduced, common, lowest}
+use Rattle.divisors.proofs.Gcd.{gcd-left, gcd-right, gcd-greatest}
 use Rattle.integers.proofs.Ring.{poly, linear, eqn, _&_}
-use Rattle.integers.specs.declared.Triple.{Triple}
+use Rattle.divisors.specs.declared.Triple.{Triple}
 
 -- ---- the common divisor
 

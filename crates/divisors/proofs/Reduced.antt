@@ -12,13 +12,13 @@ use native.Mathlib.Nat.{mul-div-mul-left, mul-comm, mul-one, zero-div}
 use native.Mathlib.Omega.{arith}
 use lib.IntN.{ℤ, pos, negsuc, negℤ, natAbs, _*ℤ_}
 use lib.Signed.{quotZ}
 use Rattle.integers.proofs.Abs.{abs-*}
-use Rattle.integers.specs.Divisor.{gcd, common, over, lowest, Reduced}
-use Rattle.integers.proofs.Gcd.{gcd-scale}
+use Rattle.divisors.specs.Divisor.{gcd, common, over, lowest, Reduced}
+use Rattle.divisors.proofs.Gcd.{gcd-scale}
 use Rattle.integers.proofs.Laws.{*-comm}
-use Rattle.integers.proofs.LowestTerms.{divides-x, divides-y, divides-e, lowest-pos, lowest-reduced, lowest-proportion}
+use Rattle.divisors.proofs.LowestTerms.{divides-x, divides-y, divides-e, lowest-pos, lowest-reduced, lowest-proportion}
 use Rattle.integers.proofs.Order.{≡-cancel}
 use Rattle.integers.proofs.Ring.{poly, linear, eqn, _&_}
 
 -- ---- scaling
 

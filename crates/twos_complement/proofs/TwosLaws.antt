@@ -3,24 +3,17 @@
 --   halves, half-pos, half-le   : twice the half is 2^(8n); the half is above 0 and at most 2^63
 --   twos-lt, back-mag           : the bytes of a signed number are below 2^(8n); what is read back has its magnitude below the half
 --   back-twos, twos-back        : a signed number comes back from its bytes, and bytes from their signed number
---   signed-round-trip           : a signed number that is written is read
---   signed-again                : a signed field that is read and written again leaves the list as it was
 use mathlib.Core.Path.{_≡_, refl, sym, ap, _∙_, subst}
 use mathlib.Core.Bool.{Bool, true, false}
-use mathlib.Core.List.{List}
 use Prim.Native.Nat.{ℕ, zero, suc, _+_, _-_, _*_, _^_, _≤_, _<_}
 use native.Mathlib.Nat.{two-pow-succ}
 use native.Mathlib.Omega.{arith}
 use borrow.Author.Tests.{lt-ltb, le-ltb, ltb-true, ltb-false}
 use lib.Dec.{ltb}
 use lib.IntN.{ℤ, pos, negsuc}
-use lib.ListN.{length, getD}
 use lib.Pow.{pow-pos, pow-mono}
 use lib.Signed.{mag}
-use Rattle.big_endian.specs.Fields.{put, get}
-use Rattle.big_endian.specs.Twos.{Width, half, twos, pickZ, back}
-use Rattle.big_endian.proofs.FieldLaws.{round-trip}
-use Rattle.big_endian.proofs.ByteLists.{get-lt, put-get}
+use Rattle.twos_complement.specs.Twos.{Width, half, twos, pickZ, back}
 
 -- ---- the halves make the whole
 
@@ -95,14 +88,3 @@ back-mag n u h = go (ltb u (half n)) refl
     go : (b : Bool) → ltb u (half n) ≡ b → mag (back n u) < half n
     go true e = let l = ltb-true u (half n) e in subst (λ (z : ℤ). mag z < half n) (sym (back-low n u l)) l
     go false e = let l = ltb-false u (half n) e in subst (λ (z : ℤ). mag z < half n) (sym (back-high n u l)) (under u (half n) l h)
-
--- ---- a signed field, written and read, and read and written
-
-pub signed-round-trip : {n : ℕ} → Width n → (z : ℤ) (at : ℕ) (xs : List ℕ) → mag z < half n → at + n ≤ length xs → back n (get n 0 at (put n (twos n z) at xs)) ≡ z
-signed-round-trip {n} w z at xs h k =
-    ap (back n) (round-trip n (twos n z) at xs k (subst (λ (m : ℕ). twos n z < m) (halves w) (twos-lt n z h))) ∙ back-twos n z h
-
-pub signed-again : {n : ℕ} → Width n → (xs : List ℕ) → ((k : ℕ) → getD xs k 0 < 256) → (at : ℕ) → at + n ≤ length xs → put n (twos n (back n (get n 0 at xs))) at xs ≡ xs
-signed-again {n} w xs bytes at h =
-    ap (λ (v : ℕ). put n v at xs) (twos-back n (get n 0 at xs) (subst (λ (m : ℕ). get n 0 at xs < m) (sym (halves w)) (get-lt xs bytes n at)))
-    ∙ put-get xs bytes n at h

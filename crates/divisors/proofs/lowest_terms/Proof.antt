@@ -1,4 +1,4 @@
--- `integers::lowest_terms` meets its contract: it divides by `common`, which is from 1 to e.
+-- `divisors::lowest_terms` meets its contract: it divides by `common`, which is from 1 to e.
 use mathlib.Core.Path.{_≡_, sym, ap, ap₂, _∙_, subst}
 use Prim.Native.Nat.{ℕ, _/_, _^_, _<_}
 use native.Mathlib.Nat.{lt-of-le-of-lt}
@@ -8,10 +8,10 @@ use lib.Signed.{quotZ}
 use mir.Syntax.{w64}
 use mir.Val.{SFits, toZ, ofZ}
 use mir.Facts.{toZ-ofZ}
-use Rattle.integers.specs.Divisor.{common, over}
-use Rattle.integers.proofs.LowestTerms.{common-pos, common-le}
-use Rattle.integers.proofs.lowest_terms.Statement.{statement}
-use Rattle.integers.proofs.lowest_terms.Tie as tie
+use Rattle.divisors.specs.Divisor.{common, over}
+use Rattle.divisors.proofs.LowestTerms.{common-pos, common-le}
+use Rattle.divisors.proofs.lowest_terms.Statement.{statement}
+use Rattle.divisors.proofs.lowest_terms.Tie as tie
 
 module _ (c : tie.After-common-divisor) where
   abbrev start : tie.Start

@@ -1,4 +1,4 @@
--- `big_endian::of_bits` meets its contract. With h half the numbers of n bytes, bits u from h on are those of -1 - (h + h - 1 - u).
+-- `twos_complement::of_bits` meets its contract. With h half the numbers of n bytes, bits u from h on are those of -1 - (h + h - 1 - u).
 use mathlib.Core.Path.{_≡_, sym, ap, _∙_, subst}
 use Prim.Native.Nat.{ℕ, suc, _+_, _-_, _^_, _≤_, _<_}
 use native.Mathlib.Omega.{arith}
@@ -6,11 +6,11 @@ use borrow.Author.Needs.{needs}
 use lib.IntN.{pos, negsuc}
 use mir.Syntax.{w64}
 use mir.ValLaws.{toZ-pos}
-use Rattle.big_endian.specs.Twos.{half}
-use Rattle.big_endian.proofs.TwosLaws.{half-le, half-pos, back-low, back-high}
+use Rattle.twos_complement.specs.Twos.{half}
+use Rattle.twos_complement.proofs.TwosLaws.{half-le, half-pos, back-low, back-high}
 use Rattle.integers.proofs.Complement.{minus-fits, minus-back}
-use Rattle.big_endian.proofs.of_bits.Statement.{statement}
-use Rattle.big_endian.proofs.of_bits.Tie as tie
+use Rattle.twos_complement.proofs.of_bits.Statement.{statement}
+use Rattle.twos_complement.proofs.of_bits.Tie as tie
 
 -- the machine's form of the complement
 turned : (h u : ℕ) → 0 < h → h - 1 + h - u ≡ h + h - suc u

@@ -9,7 +9,7 @@ use mathlib.Core.Path.{_≡_}
 use Prim.Native.Nat.{ℕ, zero, suc, _/_, _%_, _∣_}
 use lib.IntN.{ℤ, pos, natAbs}
 use lib.Signed.{quotZ}
-use Rattle.integers.specs.declared.Triple.{Triple}
+use Rattle.divisors.specs.declared.Triple.{Triple}
 
 -- at most k steps
 unfoldable pub steps : ℕ → ℕ → ℕ → ℕ

@@ -1,12 +1,12 @@
--- `integers::gcd_of` meets its contract. The loop's invariant: m and n have the gcd of a and b. The measure is n.
+-- `divisors::gcd_of` meets its contract. The loop's invariant: m and n have the gcd of a and b. The measure is n.
 -- Assumes nothing.
 use mathlib.Core.Path.{_≡_, refl, sym, ap, _∙_}
 use native.Mathlib.Nat.{mod-lt}
 use native.Mathlib.Omega.{arith}
-use Rattle.integers.specs.Divisor.{gcd}
-use Rattle.integers.proofs.Gcd.{gcd-step, gcd-zero}
-use Rattle.integers.proofs.gcd_of.Statement.{statement}
-use Rattle.integers.proofs.gcd_of.Tie as tie
+use Rattle.divisors.specs.Divisor.{gcd}
+use Rattle.divisors.proofs.Gcd.{gcd-step, gcd-zero}
+use Rattle.divisors.proofs.gcd_of.Statement.{statement}
+use Rattle.divisors.proofs.gcd_of.Tie as tie
 
 abbrev Inv-loop : tie.InvT-loop
 Inv-loop a b m₀ n₀ m n = gcd m n ≡ gcd a b

@@ -1,4 +1,4 @@
--- `big_endian::bits_of` meets its contract. With h half the numbers of n bytes, a z below 0 has the bits h + h - 1 - (-1 - z).
+-- `twos_complement::bits_of` meets its contract. With h half the numbers of n bytes, a z below 0 has the bits h + h - 1 - (-1 - z).
 use mathlib.Core.Path.{_≡_, refl, sym, ap, ap₂, _∙_, subst}
 use mathlib.Core.Bool.{true, false}
 use Prim.Native.Nat.{ℕ, suc, _+_, _-_, _*_, _≤_, _<_}
@@ -10,11 +10,11 @@ use lib.Signed.{mag}
 use mir.Syntax.{w64}
 use mir.Val.{toZ, ofZ}
 use mir.Facts.{toZ-ofZ}
-use Rattle.big_endian.specs.Twos.{half, twos}
-use Rattle.big_endian.proofs.TwosLaws.{half-le, half-pos}
+use Rattle.twos_complement.specs.Twos.{half, twos}
+use Rattle.twos_complement.proofs.TwosLaws.{half-le, half-pos}
 use Rattle.integers.proofs.Complement.{complement, minus-fits, minus-back, Side, under, from, sided, Castable, castable, complement-castable}
-use Rattle.big_endian.proofs.bits_of.Statement.{statement}
-use Rattle.big_endian.proofs.bits_of.Tie as tie
+use Rattle.twos_complement.proofs.bits_of.Statement.{statement}
+use Rattle.twos_complement.proofs.bits_of.Tie as tie
 
 -- ---- of a z below 0
 complement-below : (z : ℤ) (h : ℕ) → Side z true → mag z < h → natAbs (complement z) ≤ h - 1 + h

@@ -1,12 +1,12 @@
--- `integers::common_divisor` meets its contract: the greatest common divisor of three numbers, taken in another order.
+-- `divisors::common_divisor` meets its contract: the greatest common divisor of three numbers, taken in another order.
 use mathlib.Core.Path.{ap, ap₂, _∙_}
 use borrow.Author.Needs.{needs}
 use lib.IntN.{natAbs}
 use mir.Facts.{toZ-ofZ}
-use Rattle.integers.specs.Divisor.{gcd}
-use Rattle.integers.proofs.Gcd.{gcd-three}
-use Rattle.integers.proofs.common_divisor.Statement.{statement}
-use Rattle.integers.proofs.common_divisor.Tie as tie
+use Rattle.divisors.specs.Divisor.{gcd}
+use Rattle.divisors.proofs.Gcd.{gcd-three}
+use Rattle.divisors.proofs.common_divisor.Statement.{statement}
+use Rattle.divisors.proofs.common_divisor.Tie as tie
 
 magnitude-requires : tie.Need-magnitude-requires
 magnitude-requires c κs = search needs

@@ -1,8 +1,8 @@
--- `integers::divided` meets its contract.
+-- `divisors::divided` meets its contract.
 use borrow.Author.Needs.{needs}
-use Rattle.integers.proofs.Quotient.{quot-fits, quot-back}
-use Rattle.integers.proofs.divided.Statement.{statement}
-use Rattle.integers.proofs.divided.Tie as tie
+use Rattle.divisors.proofs.Quotient.{quot-fits, quot-back}
+use Rattle.divisors.proofs.divided.Statement.{statement}
+use Rattle.divisors.proofs.divided.Tie as tie
 
 cast-result : tie.Need-cast-result
 cast-result c = search needs

@@ -1,0 +1,4 @@
+pub mod Gcd
+pub mod LowestTerms
+pub mod Reduced
+pub mod Quotient
