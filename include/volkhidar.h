@@ -1,7 +1,7 @@
 /*
  * Volkhidar: the smallest disk that holds a letter's points, exact and proved.
  *
- * Build the library with `rt staticlib exports` and link target/staticlib/libexports.a; nothing else is needed. README.md has one
+ * Build the library with `rt staticlib volkhidar` and link target/staticlib/libvolkhidar.a; nothing else is needed. README.md has one
  * command that builds and runs an example. The library is for x86-64 Linux.
  *
  * The functions are proved against their definitions for every input that this header allows, and for every such input they return.

@@ -1,6 +1,6 @@
 //! The smallest disk that holds a letter's points, exact and proved.
 //!
-//! Safe wrappers of the C interface (`include/volkhidar.h`). The library behind it is built by `rt staticlib exports`, which the build
+//! Safe wrappers of the C interface (`include/volkhidar.h`). The library behind it is built by `rt staticlib volkhidar`, which the build
 //! calls where it was not built yet.
 //!
 //! A letter's way through the library:
@@ -28,8 +28,9 @@ mod raw;
 mod refusal;
 mod shapes;
 
+pub use raw::{Disk, Point};
 pub use refusal::Refusal;
-pub use shapes::{Disk, Enclosed, Point, Preview, SupportSet};
+pub use shapes::{Enclosed, Preview, SupportSet};
 
 use refusal::checked;
 use std::ops::Range;

@@ -1,7 +1,23 @@
 //! The C interface as `include/volkhidar.h` has it. A Rust slice's pointer is never null, and two slices never overlap where one is
 //! `&mut`: that is all that the functions ask of their callers.
 
-use crate::shapes::{Disk, Point};
+/// A point of the em box: x from 0 to 1000, y from −250 to 750. Points are ordered by x, then y.
+#[repr(C)]
+#[derive(Clone, Copy, PartialEq, Eq, PartialOrd, Ord, Hash, Debug)]
+pub struct Point {
+    pub x: i16,
+    pub y: i16,
+}
+
+/// Centre (x/e, y/e), squared radius s/e². A disk that a call returns is in lowest terms, so equal disks have equal numbers.
+#[repr(C)]
+#[derive(Clone, Copy, PartialEq, Eq, Hash, Debug)]
+pub struct Disk {
+    pub x: i64,
+    pub y: i64,
+    pub e: u64,
+    pub s: u64,
+}
 
 #[repr(C)]
 pub struct Support {

@@ -1,22 +1,4 @@
-use crate::raw;
-
-/// A point of the em box: x from 0 to 1000, y from −250 to 750. Points are ordered by x, then y.
-#[repr(C)]
-#[derive(Clone, Copy, PartialEq, Eq, PartialOrd, Ord, Hash, Debug)]
-pub struct Point {
-    pub x: i16,
-    pub y: i16,
-}
-
-/// Centre (x/e, y/e), squared radius s/e². A disk that a call returns is in lowest terms, so equal disks have equal numbers.
-#[repr(C)]
-#[derive(Clone, Copy, PartialEq, Eq, Hash, Debug)]
-pub struct Disk {
-    pub x: i64,
-    pub y: i64,
-    pub e: u64,
-    pub s: u64,
-}
+use crate::raw::{self, Disk, Point};
 
 /// One to three points whose own smallest disk is that of the whole list, in rising order.
 #[derive(Clone, Copy, PartialEq, Eq, Hash, Debug)]

@@ -5,13 +5,13 @@ use mathlib.Core.List.{List, [], _∷_}
 use lib.IntN.{ℤ}
 use Rattle.answers.specs.Outcome.{given}
 use Rattle.geometry.specs.declared.Point.{Point}
-use Rattle.geometry.specs.EmBox.{allInEmBox}
+use Rattle.geometry.specs.EmBox.{em, allInEmBox}
 use Rattle.geometry.specs.Points.{points}
 use Rattle.geometry.proofs.EmBox.{box-members}
 use Rattle.point_lists.proofs.Sets.{same-refl}
 use Rattle.disks.proofs.Welzl.{smallest}
 use Rattle.disks.proofs.OneWriting.{smallest-same}
-use Rattle.disks.proofs.Answer.{limits}
+use Rattle.disks.proofs.Answer.{em-square, limits}
 use Rattle.disks.proofs.First.{first-support, first-unique}
 use Rattle.engine.specs.Engine.{Enclosure, enclosure, encloseOf}
 use Rattle.engine.proofs.Accepted.{accepted-list, has-point}
@@ -25,7 +25,7 @@ right [] some box = absurd (some refl)
 right (p ∷ P) some box = record {
   smallest = smallest p P;
   no-other-disk = λ d s. smallest-same (same-refl (p ∷ P)) (same-refl []) s (smallest p P);
-  limits = limits p P (box-members (p ∷ P) box);
+  limits = limits em em-square p P (box-members (p ∷ P) box);
   first-support = first-support p P;
   no-other-support = λ S f. first-unique (same-refl (p ∷ P)) f (first-support p P);
 }

@@ -3,34 +3,30 @@
 --   procedure-welzls  : the engine's answer is the procedure's
 --   answers d S       == what radius, preview and writer give for the disk d and the support set S
 --   worked-is         : the calls on an accepted description, one after another, give the answers for the points that it names
---   records-equal     : two records worked out are equal exactly where the disks and the first support sets are
+--   equal-answers, equal-bytes : two records worked out are equal exactly where the disks and the first support sets are
 --   demand-three      : Demand3
 use mathlib.Core.Path.{_≡_, refl, sym, ap, ap₂, _∙_, subst}
 use mathlib.Core.Bool.{true}
 use mathlib.Core.List.{List, [], _∷_, List·Permᴰ}
-use Prim.Native.Nat.{ℕ, _+_, _*_, _/_, _%_, _≤_}
+use Prim.Native.Nat.{ℕ, _+_, _*_, _/_, _≤_}
 use native.Mathlib.Omega.{arith}
 use lib.IntN.{ℤ}
 use lib.ListN.{length, take}
 use Rattle.answers.specs.Outcome.{given}
-use Rattle.integers.proofs.Tests.{true-test}
 use Rattle.geometry.specs.declared.Point.{Point}
 use Rattle.geometry.specs.declared.Disk.{Disk}
-use Rattle.geometry.specs.EmBox.{allInEmBox}
 use Rattle.geometry.specs.Points.{points, flat}
-use Rattle.geometry.proofs.EmBox.{members-box}
-use Rattle.geometry.proofs.PointLists.{length-flat, points-of-flat}
+use Rattle.geometry.proofs.PointLists.{points-of-flat}
 use Rattle.point_lists.specs.Sets.{Same}
 use Rattle.disks.specs.Smallest.{Smallest}
 use Rattle.disks.specs.Procedure.{disk, mtf, diskOf, testsOf, orderOf}
 use Rattle.disks.specs.Support.{firstSupport}
 use Rattle.disks.proofs.Welzl.{mtf-ends, smallest, disk-same, tests-most, order-permuted}
 use Rattle.disks.proofs.First.{first-support-same}
-use Rattle.description.specs.Description as description
 use Rattle.description.specs.Description.{loadOf, named}
-use Rattle.description.proofs.Accepted.{load-same, accepted-room, accepted-count, accepted-some, accepted-few, accepted-in-box, accepted-front}
+use Rattle.description.proofs.Accepted.{load-same, accepted-room}
 use Rattle.engine.specs.Engine.{Enclosure, enclosure, encloseOf, listAfter}
-use Rattle.engine.proofs.Checks.{accepted, list-accepted}
+use Rattle.engine.proofs.Checks.{list-accepted}
 use Rattle.engine.proofs.Accepted.{Accepted, accepted-list, has-point}
 use Rattle.validity.specs.Valid.{valid}
 use Rattle.record_writer.specs.Layout.{recordLength}
@@ -39,8 +35,10 @@ use Rattle.radius.specs.Radius.{wholeRadius, radiusOf}
 use Rattle.record_writer.specs.Writing.{writeOf, bufferAfter}
 use Rattle.record_reader.proofs.RoundTrip.{record-injective}
 use Rattle.preview.specs.Preview.{floats, previewOf}
+use Rattle.letter.specs.Letter.{enclosureIn}
+use Rattle.letter.proofs.ValidAnswer.{valid-enclosure}
+use Rattle.letter.proofs.Whole.{enclosure-given, enclosure-valid}
 use Rattle.claims.specs.Demand3.{ProcedureIsWelzls, AcceptedDescription, Answers, worked, WorkedOut, Demand3}
-use Rattle.claims.proofs.ValidAnswer.{valid-answer}
 use Rattle.claims.proofs.Records.{written, in-front, filled}
 use Rattle.claims.proofs.Demand2.{engine-right}
 
@@ -71,11 +69,6 @@ procedure-welzls l e h = subst (ProcedureIsWelzls l) (sym (a .answer)) (record {
 
 -- ---- records worked out
 
-valid-enclosure : (l : List ℤ) (e : Enclosure) → encloseOf l ≡ given e → valid (e .disk) (e .support) ≡ true
-valid-enclosure l e h =
-    let a = accepted-list l e h in
-    subst (λ (k : Enclosure). valid (k .disk) (k .support) ≡ true) (sym (a .answer)) (valid-answer (points l) (has-point l (a .even) (a .some)) (a .boxed))
-
 recorded : (l : List ℤ) (e : Enclosure) → encloseOf l ≡ given e → (b : List ℕ) → recordLength ≤ length b
     → WorkedOut l (take recordLength (bufferAfter (e .disk) (e .support) b))
 recorded l e h b k = record { answer = e; accepted = h; buffer = b; written = written (e .disk) (e .support) b (valid-enclosure l e h) k; filled = refl }
@@ -99,22 +92,6 @@ module _ {l m : List ℤ} {bs cs : List ℕ} (w : WorkedOut l bs) (v : WorkedOut
 loaded : {t : List ℕ} (a : AcceptedDescription t) (l : List ℤ) → 8192 ≤ length l → loadOf t l ≡ given (a .count)
 loaded {t} a l h = load-same t l (a .list) h (accepted-room t (a .list) (a .count) (a .loads)) ∙ a .loads
 
--- the engine, given the points of a list alone
-enclosed-flat : (P : List Point) → 1 ≤ length P → length P ≤ 4096 → allInEmBox P ≡ true → encloseOf (flat P) ≡ given (enclosure P)
-enclosed-flat P some most box =
-    accepted (flat P) (λ h. odd (length P) (length (flat P)) (length-flat P) h) (λ h. none (length P) (length (flat P)) (length-flat P) some h)
-    (half (length P) (length (flat P)) (length-flat P) most) (ap allInEmBox (points-of-flat P) ∙ box)
-    ∙ ap (λ (Q : List Point). given (enclosure Q)) (points-of-flat P)
-  where
-    odd : (n k : ℕ) → k ≡ 2 * n → k % 2 ≡ 1 → ⊥
-    odd n k e h = omega arith
-
-    none : (n k : ℕ) → k ≡ 2 * n → 1 ≤ n → k ≡ 0 → ⊥
-    none n k e s h = omega arith
-
-    half : (n k : ℕ) → k ≡ 2 * n → n ≤ 4096 → k / 2 ≤ 4096
-    half n k e h = omega arith
-
 abbrev answers : Disk → List Point → Answers
 answers d S = record { disk-given = d; support = S; radius = wholeRadius d; shown = floats d (wholeRadius d); bytes = recordBytes d S }
 
@@ -122,21 +99,11 @@ module _ {t : List ℕ} (a : AcceptedDescription t) (l : List ℤ) (b : List ℕ
   loads : loadOf t l ≡ given (a .count)
   loads = loaded a l long
 
-  boxed : allInEmBox (named t) ≡ true
-  boxed = members-box (named t) (λ p i. true-test (accepted-in-box t l (a .count) loads p i))
-
-  some-named : 1 ≤ length (named t)
-  some-named = subst (λ (n : ℕ). 1 ≤ n) (accepted-count t l (a .count) loads) (accepted-some t l (a .count) loads)
-
-  encloses : encloseOf (take (2 * a .count) (description.listAfter t l)) ≡ given (enclosure (named t))
-  encloses = ap encloseOf (accepted-front t l (a .count) loads)
-      ∙ enclosed-flat (named t) some-named (subst (λ (n : ℕ). n ≤ 4096) (accepted-count t l (a .count) loads) (accepted-few t l (a .count) loads)) boxed
+  encloses : enclosureIn t l ≡ given (enclosure (named t))
+  encloses = enclosure-given t l (a .count) loads
 
   valid-named : valid (diskOf (named t)) (firstSupport (named t)) ≡ true
-  valid-named = valid-answer (named t) (λ e. none (length (named t)) some-named (ap length e)) boxed
-    where
-      none : (n : ℕ) → 1 ≤ n → n ≡ 0 → ⊥
-      none n h e = omega arith
+  valid-named = enclosure-valid t l (enclosure (named t)) encloses
 
   writes : writeOf (diskOf (named t)) (firstSupport (named t)) b ≡ given tt
   writes = written (diskOf (named t)) (firstSupport (named t)) b valid-named room
@@ -149,7 +116,7 @@ module _ {t : List ℕ} (a : AcceptedDescription t) (l : List ℤ) (b : List ℕ
 
   worked-is : worked t l b ≡ given (answers (diskOf (named t)) (firstSupport (named t)))
   unfolding worked
-  worked-is = rw (loads, encloses, reaches, shows, writes, in-front (diskOf (named t)) (firstSupport (named t)) b valid-named)
+  worked-is = rw (encloses, reaches, shows, writes, in-front (diskOf (named t)) (firstSupport (named t)) b valid-named)
 
 same-answers : (P Q : List Point) → Same P Q → answers (diskOf P) (firstSupport P) ≡ answers (diskOf Q) (firstSupport Q)
 same-answers P Q s = ap₂ answers (disk-same P Q s) (first-support-same P Q s)

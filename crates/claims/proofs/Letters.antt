@@ -10,11 +10,11 @@ use Rattle.point_lists.specs.Rising.{insert, sorted, rising}
 use Rattle.disks.specs.Support.{fronted, choose, sameDisk, supports, firstOf, firstSupport}
 use Rattle.engine.specs.Engine.{encloseOf, listAfter}
 use Rattle.integers.specs.Least.{least, firstFrom}
-use Rattle.validity.specs.Valid.{centreInEmBox, validDisk, validPoints, valid}
+use Rattle.validity.specs.Valid.{centreInBox, validDiskIn, validPointsIn, validIn}
 use Rattle.claims.specs.Letters.{letters, AllHold}
 
 pub letters-hold : AllHold letters
-unfolding gcd steps holds inBox allInBox before points flat outside lowestTerms diameterDisk turnedBy circle boundaryDisk tested step through run insert sorted fronted choose sameDisk supports firstOf firstSupport encloseOf listAfter least firstFrom centreInEmBox validDisk rising validPoints valid
+unfolding gcd steps holds inBox allInBox before points flat outside lowestTerms diameterDisk turnedBy circle boundaryDisk tested step through run insert sorted fronted choose sameDisk supports firstOf firstSupport encloseOf listAfter least firstFrom centreInBox validDiskIn rising validPointsIn validIn
 letters-hold = (
   record { answer = refl; order = refl; whole = refl },
   (

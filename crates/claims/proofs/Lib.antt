@@ -1,4 +1,3 @@
-pub mod ValidAnswer
 pub mod Records
 pub mod Lines
 pub mod Demand1

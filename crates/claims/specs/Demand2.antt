@@ -18,7 +18,7 @@ use Rattle.geometry.specs.declared.Disk.{Disk}
 use Rattle.geometry.specs.Points.{points}
 use Rattle.disks.specs.Smallest.{Smallest}
 use Rattle.disks.specs.FirstSupport.{IsFirstSupport}
-use Rattle.geometry.specs.EmBox.{WithinLimits}
+use Rattle.geometry.specs.EmBox.{em, WithinLimits}
 use Rattle.engine.specs.Engine.{Enclosure, encloseOf}
 use Rattle.record_writer.specs.Layout.{recordLength}
 use Rattle.record_writer.specs.Writing.{writeOf, bufferAfter}
@@ -28,7 +28,7 @@ use Rattle.record_reader.specs.Reading.{readOf}
 pub record EngineIsRight (P : List Point) (e : Enclosure) : Type 0 where
   pub smallest : Smallest P (e .disk)
   pub no-other-disk : (d : Disk) → Smallest P d → d ≡ e .disk
-  pub limits : WithinLimits (e .disk)
+  pub limits : WithinLimits em (e .disk)
   pub first-support : IsFirstSupport P (e .support)
   pub no-other-support : (S : List Point) → IsFirstSupport P S → S ≡ e .support
 

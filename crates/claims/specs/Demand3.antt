@@ -4,8 +4,8 @@
 --                           left is a permutation, and the count is at most (n³ + 5n) / 6
 --   AcceptedDescription  == a description that the loader, lent some list, does not refuse
 --   Answers              == what the calls give for a description: disk, support set, whole radius, preview and record
---   worked t l b         == the calls one after another for the description t, lent the list l and the buffer b: loader; engine, given the
---                           loader's points alone; whole radius, preview and writer, given what the engine returned
+--   worked t l b         == the calls one after another for the description t, lent the list l and the buffer b: loader, then engine, given
+--                           the loader's points alone (letter: `enclosureIn`); whole radius, preview and writer, given what the engine returned
 --   WorkedOut l bs       == bs is a record worked out for the accepted list l, in some buffer that the writer does not refuse
 --   Demand3              == all of demand 3
 use mathlib.Core.Path.{_≡_}
@@ -22,7 +22,6 @@ use Rattle.point_lists.specs.Sets.{Same}
 use Rattle.disks.specs.Smallest.{Smallest}
 use Rattle.disks.specs.Procedure.{disk, mtf}
 use Rattle.disks.specs.FirstSupport.{IsFirstSupport}
-use Rattle.description.specs.Description as description
 use Rattle.description.specs.Description.{loadOf, named}
 use Rattle.engine.specs.Engine.{Enclosure, encloseOf, listAfter}
 use Rattle.preview.specs.declared.Preview.{Preview}
@@ -30,6 +29,7 @@ use Rattle.preview.specs.Preview.{previewOf}
 use Rattle.record_writer.specs.Layout.{recordLength}
 use Rattle.radius.specs.Radius.{radiusOf}
 use Rattle.record_writer.specs.Writing.{writeOf, bufferAfter}
+use Rattle.letter.specs.Letter.{enclosureIn}
 
 -- ---- the procedure
 
@@ -62,12 +62,11 @@ pub record Answers : Type 0 where
 
 unfoldable pub worked : List ℕ → List ℤ → List ℕ → Outcome Answers
 worked t l b =
-    andThen (loadOf t l) (λ n.
-    andThen (encloseOf (take (2 * n) (description.listAfter t l))) (λ e.
+    andThen (enclosureIn t l) (λ e.
     andThen (radiusOf (e .disk) (e .support)) (λ r.
     andThen (previewOf (e .disk) (e .support)) (λ p.
     andThen (writeOf (e .disk) (e .support) b) (λ done.
-    given (record { disk-given = e .disk; support = e .support; radius = r; shown = p; bytes = take recordLength (bufferAfter (e .disk) (e .support) b) }))))))
+    given (record { disk-given = e .disk; support = e .support; radius = r; shown = p; bytes = take recordLength (bufferAfter (e .disk) (e .support) b) })))))
 
 -- ---- records worked out
 

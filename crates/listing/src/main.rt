@@ -49,9 +49,8 @@ fn read_all(buf: &mut [u8]) -> Input
 
 fn main() {
     let mut text = io::large_buffer();
-    let mut list = [0i16; 8192];
     match read_all(&mut text) {
-        Input::Bytes(n) => report::print_description(&text[..n], &mut list),
+        Input::Bytes(n) => report::print_description(&text[..n]),
         Input::Unreadable => os::fail(b"standard input"),
     }
 }

@@ -1,6 +1,5 @@
 // What the listing prints of a description: four lines, or one line where it is refused (01, "Letters to try").
 use answers::Refusal;
-use description::Loaded;
 use engine::Enclosed;
 use geometry::Disk;
 use geometry::Point;
@@ -82,17 +81,10 @@ fn print_enclosure(d: Disk, t: SupportSet, tests: u64) {
     }
 }
 
-fn print_list(list: &mut [i16]) {
-    match engine::smallest_disk(list) {
+// What loader and engine find.
+pub fn print_description(text: &[u8]) {
+    match letter::enclose(text) {
         Enclosed::Found(d, t, tests) => print_enclosure(d, t, tests),
         Enclosed::Refused(n) => print_refusal(n),
-    }
-}
-
-// Loads the description into the list, which has 8,192 numbers, and prints what the engine finds.
-pub fn print_description(text: &[u8], list: &mut [i16]) {
-    match description::load(text, list) {
-        Loaded::Points(n) => print_list(&mut list[..2 * n]),
-        Loaded::Refused(n) => print_refusal(n),
     }
 }

@@ -9,19 +9,14 @@ use Rattle.listing.specs.Reading.{Holds}
 use borrow.Author.Needs.{needs}
 use Rattle.listing.proofs.main.Statement.{statement}
 use Rattle.listing.proofs.main.Tie as tie
-use Rattle.listing.proofs.main.Reads as reads
-use Rattle.listing.proofs.main.Lts as lts
-use Rattle.io.proofs.large_buffer.Reads as large-buffer-reads
-use Rattle.listing.proofs.read_all.Reads as read-all-reads
-use Rattle.os.proofs.fail.Reads as fail-reads
-use Rattle.report.proofs.print_description.Reads as print-description-reads
 
 -- what was read lies within the buffer
 read-within : (c : tie.After-known-told) → c .before .n .given .0 .0 ≤ length (c .before .before .before .before .read-all .last .0)
 read-within c =
-    let r = c .before .before .before .before .read-all in
-    let h = subst (λ (i : Input). Holds i (length (c .before .before .before .before .before .before .large-buffer .result))) (c .before .n .given .1) (r .ensures) in
-    omega (arith, h, r .kept .0)
+    let read = c .before .before .before .before in
+    let size = length (read .before .before .large-buffer .result) in
+    let h = subst (λ (i : Input). Holds i size) (c .before .n .given .1) (read .read-all .ensures) in
+    omega (arith, h, read .read-all .kept .0)
 
 large-buffer-requires : tie.Need-large-buffer-requires
 large-buffer-requires c κs = search needs
@@ -39,10 +34,7 @@ array-share-prefix-text : tie.Need-array-share-prefix-text
 array-share-prefix-text c = read-within c
 
 slice-aggregate-print-description : tie.Need-slice-aggregate-print-description
-slice-aggregate-print-description c = sym (length-take-le (c .before .before .n .given .0 .0) (c .before .before .before .before .before .read-all .last .0) (read-within (c .before)))
-
-slice-aggregate-print-description-2 : tie.Need-slice-aggregate-print-description-2
-slice-aggregate-print-description-2 c = search needs
+slice-aggregate-print-description c = sym (length-take-le _ _ (read-within (c .before)))
 
 print-description-requires : tie.Need-print-description-requires
 print-description-requires c κs = search needs
@@ -72,7 +64,6 @@ main-spec =
     enum-known-n
     array-share-prefix-text
     slice-aggregate-print-description
-    slice-aggregate-print-description-2
     print-description-requires
     enum-told
     slice-aggregate-fail

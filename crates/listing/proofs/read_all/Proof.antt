@@ -10,9 +10,6 @@ use Rattle.listing.specs.declared.Got.{Got}
 use Rattle.listing.specs.Reading.{Brings}
 use Rattle.listing.proofs.read_all.Statement.{statement}
 use Rattle.listing.proofs.read_all.Tie as tie
-use Rattle.listing.proofs.read_all.Reads as reads
-use Rattle.listing.proofs.read_all.Lts as lts
-use Rattle.listing.proofs.read_some.Reads as read-some-reads
 
 abbrev Inv-loop : tie.InvT-loop
 Inv-loop buf₀ done₀ buf done = (done ≤ length buf) × (length buf ≡ length buf₀)
@@ -24,21 +21,24 @@ abbrev μ-loop : tie.MeasureT-loop
 abbrev turn : tie.After-known-told Inv-loop μ-loop → tie.At-loop Inv-loop μ-loop
 turn c = c .before .before .before .before .before .before .before .before
 
+abbrev reading : tie.After-known-told Inv-loop μ-loop → tie.After-read-some Inv-loop μ-loop
+reading c = c .before .before .before .before .before
+
 brought : (c : tie.After-known-told Inv-loop μ-loop)
     → (1 ≤ c .before .n .given .0 .0) × (c .before .n .given .0 .0 ≤ length (turn c .loop .buf) - turn c .loop .done)
 brought c =
     let b = turn c .loop .buf in
     let at = turn c .loop .done in
-    let read = subst (λ (r : Got). Brings r (length (midOf at (length b - at) b))) (c .before .n .given .1) (c .before .before .before .before .before .read-some .ensures) in
+    let read = subst (λ (r : Got). Brings r (length (midOf at (length b - at) b))) (c .before .n .given .1) (reading c .read-some .ensures) in
     (read .0, subst (λ (k : ℕ). c .before .n .given .0 .0 ≤ k) (mid-len at (length b) b (le-refl (length b))) (read .1))
 
 -- the buffer comes back as long as it was
 same-size : (c : tie.After-known-told Inv-loop μ-loop)
     → let b = turn c .loop .buf in
-    length (putMid (turn c .loop .done) (length b - turn c .loop .done) b (c .before .before .before .before .before .read-some .last .0)) ≡ length b
+    length (putMid (turn c .loop .done) (length b - turn c .loop .done) b (reading c .read-some .last .0)) ≡ length b
 same-size c =
     let b = turn c .loop .buf in
-    same-len-mid (turn c .loop .done) (length b - turn c .loop .done) b (c .before .before .before .before .before .read-some .last .0) (c .before .before .before .before .before .read-some .kept .0)
+    same-len-mid (turn c .loop .done) (length b - turn c .loop .done) b (reading c .read-some .last .0) (reading c .read-some .kept .0)
 
 loop-holds : tie.Need-loop-holds Inv-loop μ-loop
 loop-holds c = search needs

@@ -1,0 +1,2 @@
+pub mod ValidAnswer
+pub mod Whole

@@ -1,0 +1,99 @@
+-- What a description worked whole comes to.
+--
+--   enclosed-flat      : the engine, given the points of a list alone, refuses none of 1 to 4,096 points in the em box
+--   enclosure-loaded   : loader, then engine, by what the loader gives
+--   enclosure-given, enclosure-refused : of these only the loader refuses
+--   enclosure-valid    : the writer takes what they give
+--   letter-short       : a short buffer is refused first
+--   letter-given, letter-refused : in one that is long enough the letter is what loader and engine give, or their refusal
+--   letter-written     : the buffer as the writer leaves it
+use mathlib.Core.Path.{_≡_, refl, sym, ap, _∙_, subst}
+use mathlib.Core.Bool.{true}
+use mathlib.Core.List.{List}
+use Prim.Native.Nat.{ℕ, _*_, _/_, _%_, _≤_, _<_}
+use native.Mathlib.Omega.{arith}
+use borrow.Author.Tests.{lt-ltb, le-ltb}
+use lib.IntN.{ℤ}
+use lib.ListN.{length, take}
+use Rattle.answers.specs.Outcome.{Outcome, given, refused, andThen}
+use Rattle.answers.proofs.OutcomeLaws.{not-given}
+use Rattle.integers.proofs.Tests.{true-test}
+use Rattle.geometry.specs.declared.Point.{Point}
+use Rattle.geometry.specs.EmBox.{allInEmBox}
+use Rattle.geometry.specs.Points.{flat}
+use Rattle.geometry.proofs.EmBox.{members-box}
+use Rattle.geometry.proofs.PointLists.{length-flat, points-of-flat}
+use Rattle.description.specs.Description.{named, loadOf, listAfter}
+use Rattle.description.proofs.Accepted.{accepted-count, accepted-some, accepted-few, accepted-in-box, accepted-front}
+use Rattle.engine.specs.Engine.{Enclosure, enclosure, encloseOf}
+use Rattle.engine.proofs.Checks.{accepted}
+use Rattle.validity.specs.Valid.{valid}
+use Rattle.record_writer.specs.Layout.{recordLength}
+use Rattle.record_writer.specs.Writing as writing
+use Rattle.letter.specs.Letter.{enclosureIn, enclosureOf, letter, letterOf, letterIn, bufferAfter}
+use Rattle.letter.proofs.ValidAnswer.{valid-enclosure}
+
+-- ---- the engine, given a list of points
+
+pub enclosed-flat : (P : List Point) → 1 ≤ length P → length P ≤ 4096 → allInEmBox P ≡ true → encloseOf (flat P) ≡ given (enclosure P)
+enclosed-flat P some most box =
+    accepted (flat P) (λ h. odd (length P) (length (flat P)) (length-flat P) h) (λ h. none (length P) (length (flat P)) (length-flat P) some h)
+    (half (length P) (length (flat P)) (length-flat P) most) (ap allInEmBox (points-of-flat P) ∙ box)
+    ∙ ap (λ (Q : List Point). given (enclosure Q)) (points-of-flat P)
+  where
+    odd : (n k : ℕ) → k ≡ 2 * n → k % 2 ≡ 1 → ⊥
+    odd n k e h = omega arith
+
+    none : (n k : ℕ) → k ≡ 2 * n → 1 ≤ n → k ≡ 0 → ⊥
+    none n k e s h = omega arith
+
+    half : (n k : ℕ) → k ≡ 2 * n → n ≤ 4096 → k / 2 ≤ 4096
+    half n k e h = omega arith
+
+-- ---- loader and engine
+
+module _ (text : List ℕ) (list : List ℤ) where
+  -- the engine, given the loader's points
+  abbrev enclosed : ℕ → Outcome Enclosure
+  enclosed n = encloseOf (take (2 * n) (listAfter text list))
+
+  pub enclosure-loaded : (n : ℕ) → loadOf text list ≡ given n → enclosureIn text list ≡ encloseOf (take (2 * n) (listAfter text list))
+  unfolding enclosureIn
+  enclosure-loaded n h = ap (λ (o : Outcome ℕ). andThen o enclosed) h
+
+  pub enclosure-refused : (k : ℕ) → loadOf text list ≡ refused k → enclosureIn text list ≡ refused k
+  unfolding enclosureIn
+  enclosure-refused k h = ap (λ (o : Outcome ℕ). andThen o enclosed) h
+
+  pub enclosure-given : (n : ℕ) → loadOf text list ≡ given n → enclosureIn text list ≡ given (enclosure (named text))
+  enclosure-given n loads =
+      let count = accepted-count text list n loads in
+      let some = subst (λ (k : ℕ). 1 ≤ k) count (accepted-some text list n loads) in
+      let few = subst (λ (k : ℕ). k ≤ 4096) count (accepted-few text list n loads) in
+      let boxed = members-box (named text) (λ p i. true-test (accepted-in-box text list n loads p i)) in
+      enclosure-loaded n loads ∙ ap encloseOf (accepted-front text list n loads) ∙ enclosed-flat (named text) some few boxed
+
+  pub enclosure-valid : (e : Enclosure) → enclosureIn text list ≡ given e → valid (e .disk) (e .support) ≡ true
+  enclosure-valid e h = by-load (loadOf text list) refl
+    where
+      by-load : (o : Outcome ℕ) → loadOf text list ≡ o → valid (e .disk) (e .support) ≡ true
+      by-load (given n) loads = valid-enclosure (take (2 * n) (listAfter text list)) e (sym (enclosure-loaded n loads) ∙ h)
+      by-load (refused k) refuses = absurd (not-given (sym (enclosure-refused k refuses) ∙ h))
+
+-- ---- the letter, by what loader and engine give
+
+module _ (text buf : List ℕ) where
+  pub letter-short : length buf < recordLength → letterIn text buf ≡ refused 8
+  letter-short h = rw (lt-ltb (length buf) recordLength h)
+
+  module _ (enough : recordLength ≤ length buf) where
+    pub letter-given : (e : Enclosure) → enclosureOf text ≡ given e → letterIn text buf ≡ given (letter e)
+    unfolding letterOf
+    letter-given e h = rw (le-ltb (length buf) recordLength enough, h)
+
+    pub letter-refused : (k : ℕ) → enclosureOf text ≡ refused k → letterIn text buf ≡ refused k
+    unfolding letterOf
+    letter-refused k h = rw (le-ltb (length buf) recordLength enough, h)
+
+    pub letter-written : (e : Enclosure) → enclosureOf text ≡ given e → writing.bufferAfter (e .disk) (e .support) buf ≡ bufferAfter (given (letter e)) buf
+    letter-written e h = rw (le-ltb (length buf) recordLength enough, enclosure-valid text _ e h)

@@ -1,0 +1,88 @@
+// The library for C and Rust programs: the calls of include/volkhidar.h, over numbers, structs of numbers and slices. Each promises the
+// definition of the call that it exports, and is the call of a crate of its own.
+ghost use mathlib.Core.Path.{_≡_};
+ghost use Rattle.description.specs.Description as description;
+ghost use Rattle.sheet.specs.Sheet.{glyphOf};
+ghost use Rattle.engine.specs.Engine as engine;
+ghost use Rattle.radius.specs.Radius.{radiusOf};
+ghost use Rattle.record_writer.specs.Writing as writer;
+ghost use Rattle.record_reader.specs.Reading.{readOf};
+ghost use Rattle.preview.specs.Preview.{previewOf};
+ghost use Rattle.letter.specs.Letter as letter;
+ghost use Rattle.c_types.specs.Support.{pointsOf};
+ghost use Rattle.c_types.specs.Code.{codeOf};
+ghost use Rattle.c_load.specs.Answer.{loadAnswer};
+ghost use Rattle.c_glyph.specs.Answer.{glyphAnswer};
+ghost use Rattle.c_disk.specs.Answer.{diskAnswer};
+ghost use Rattle.c_radius.specs.Answer.{radiusAnswer};
+ghost use Rattle.c_preview.specs.Answer.{previewAnswer};
+ghost use Rattle.c_read.specs.Answer.{recordAnswer};
+use c_disk::DiskAnswer;
+use c_glyph::GlyphAnswer;
+use c_load::LoadAnswer;
+use c_preview::PreviewAnswer;
+use c_radius::RadiusAnswer;
+use c_read::RecordAnswer;
+use c_types::Support;
+use geometry::Disk;
+
+#[no_mangle]
+pub extern "C" fn volkhidar_load(text: &[u8], list: &mut [i16]) -> LoadAnswer
+    ensures { λ r. ⌜ r ≡ loadAnswer (description.loadOf (now (text .entry)) (now (list .entry))) ⌝ }
+    ensures { λ _. ⌜ now (list .exit) ≡ description.listAfter (now (text .entry)) (now (list .entry)) ⌝ }
+{
+    c_load::load(text, list)
+}
+
+#[no_mangle]
+pub extern "C" fn volkhidar_glyph(bytes: &[u8], k: usize) -> GlyphAnswer
+    ensures { λ r. ⌜ r ≡ glyphAnswer (glyphOf (now (bytes .entry)) k) ⌝ }
+{
+    c_glyph::glyph(bytes, k)
+}
+
+#[no_mangle]
+pub extern "C" fn volkhidar_smallest_disk(list: &mut [i16]) -> DiskAnswer
+    ensures { λ r. ⌜ r ≡ diskAnswer (engine.encloseOf (now (list .entry))) ⌝ }
+    ensures { λ _. ⌜ now (list .exit) ≡ engine.listAfter (now (list .entry)) ⌝ }
+{
+    c_disk::smallest_disk(list)
+}
+
+#[no_mangle]
+pub extern "C" fn volkhidar_whole_radius(d: Disk, t: Support) -> RadiusAnswer
+    ensures { λ r. ⌜ r ≡ radiusAnswer (radiusOf d (pointsOf t)) ⌝ }
+{
+    c_radius::whole_radius(d, t)
+}
+
+#[no_mangle]
+pub extern "C" fn volkhidar_preview(d: Disk, t: Support) -> PreviewAnswer
+    ensures { λ r. ⌜ r ≡ previewAnswer (previewOf d (pointsOf t)) ⌝ }
+{
+    c_preview::preview_of(d, t)
+}
+
+#[no_mangle]
+pub extern "C" fn volkhidar_write_record(d: Disk, t: Support, buf: &mut [u8]) -> u64
+    ensures { λ r. ⌜ r ≡ codeOf (writer.writeOf d (pointsOf t) (now (buf .entry))) ⌝ }
+    ensures { λ _. ⌜ now (buf .exit) ≡ writer.bufferAfter d (pointsOf t) (now (buf .entry)) ⌝ }
+{
+    c_write::write_record(d, t, buf)
+}
+
+#[no_mangle]
+pub extern "C" fn volkhidar_read_record(bytes: &[u8]) -> RecordAnswer
+    ensures { λ r. ⌜ r ≡ recordAnswer (readOf (now (bytes .entry))) ⌝ }
+{
+    c_read::read_record(bytes)
+}
+
+// From a description to its record.
+#[no_mangle]
+pub extern "C" fn volkhidar_record_of(text: &[u8], buf: &mut [u8]) -> u64
+    ensures { λ r. ⌜ r ≡ codeOf (letter.letterIn (now (text .entry)) (now (buf .entry))) ⌝ }
+    ensures { λ _. ⌜ now (buf .exit) ≡ letter.bufferAfter (letter.letterIn (now (text .entry)) (now (buf .entry))) (now (buf .entry)) ⌝ }
+{
+    c_letter::record_of(text, buf)
+}
