@@ -318,4 +318,20 @@ mod tests {
         let times = seen(5_000, written);
         assert!([0, 7, 8].iter().all(|&number| times[number] > 500), "{times:?}");
     }
+
+    #[test]
+    fn accepted_records_written_again_are_the_same_bytes() {
+        let mut random = Random::new(44);
+        let mut accepted = 0;
+        for _ in 0..20_000 {
+            let bytes = record(&mut random);
+            if let Ok((disk, support)) = record::read(&bytes) {
+                let mut again = [0; record::RECORD_LENGTH];
+                assert_eq!(record::write(&disk, &support, &mut again), Ok(()));
+                assert_eq!(again[..], bytes[..]);
+                accepted += 1;
+            }
+        }
+        assert!((5_000..15_000).contains(&accepted), "{accepted} of 20,000 accepted");
+    }
 }

@@ -7,6 +7,7 @@
 //! |---|---|
 //! | [`refusal`] | the refusal numbers |
 //! | [`geometry`] | points, disks in lowest terms, containment, the disks of one, two and three points |
+//! | [`definition`] | the smallest disk of a few points, by its definition |
 //! | [`smallest`] | the smallest enclosing disk, by growing a set of at most three points |
 //! | [`support`] | the first support set (document 01: rim set), by trying all in order |
 //! | [`procedure`] | Welzl's B_MTFDISK, transcribed: count of tests and order left |
@@ -22,6 +23,7 @@
 //! | [`vectors`] | the stored cases and their layout |
 
 pub mod damage;
+pub mod definition;
 pub mod description;
 pub mod engine;
 pub mod figures;

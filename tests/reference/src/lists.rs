@@ -2,7 +2,6 @@
 
 use crate::geometry::Point;
 use crate::random::Random;
-use crate::worst;
 
 /// A drawn list; the name says how to draw it again.
 pub struct Case {
@@ -58,8 +57,8 @@ pub fn draw(kind: Kind, n: usize, random: &mut Random) -> Vec<Point> {
         Kind::Convex => convex(n, random),
         Kind::Outline => outline(n, random),
         Kind::Edges => edges(n, random),
-        Kind::Growing => worst::growing(n, random),
-        Kind::ByDistance => worst::by_distance(n, random),
+        Kind::Growing => growing(n, random),
+        Kind::ByDistance => by_distance(n, random),
     }
 }
 
@@ -168,7 +167,7 @@ fn halfway(a: Point, b: Point) -> Point {
 }
 
 /// Point k of n around the circle of the given radius about (500, 250), rounded to the lattice, by whole numbers alone.
-pub fn around(k: usize, n: usize, radius: i64) -> Point {
+fn around(k: usize, n: usize, radius: i64) -> Point {
     let (k, n) = (k as i64 % n as i64, n as i64);
     let quarter = 4 * k / n;
     // tan of half the angle within the quarter is f / n.
@@ -229,6 +228,23 @@ fn edges(n: usize, random: &mut Random) -> Vec<Point> {
         _ => random.coordinate(least, most),
     };
     (0..n).map(|_| Point::new(edge(0, 1000, random), edge(-250, 750, random))).collect()
+}
+
+/// Points round the middle with rising radius.
+fn growing(n: usize, random: &mut Random) -> Vec<Point> {
+    let turn = 1 + random.below(n);
+    let radius = |i: usize| 1 + (499 * i / n) as i64;
+    (0..n).map(|i| around(i * turn, n, radius(i))).collect()
+}
+
+/// Points anywhere in the em box, the nearest to its middle first.
+fn by_distance(n: usize, random: &mut Random) -> Vec<Point> {
+    let mut points = draw(Kind::Uniform, n, random);
+    points.sort_by_key(|p| {
+        let (dx, dy) = (i32::from(p.x) - 500, i32::from(p.y) - 250);
+        dx * dx + dy * dy
+    });
+    points
 }
 
 #[cfg(test)]

@@ -1,7 +1,7 @@
 //! The first support set (document 01: the first rim set).
 
+use crate::definition::by_definition;
 use crate::geometry::{Disk, Point};
-use crate::smallest::by_definition;
 
 /// One to three different points in rising order.
 pub type SupportSet = Vec<Point>;
