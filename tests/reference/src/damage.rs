@@ -2,6 +2,7 @@
 
 use crate::engine;
 use crate::geometry::{gcd, Disk, Point};
+use crate::inputs::{LoaderCase, PartCase, SheetCase, WriterCase};
 use crate::lists::{self, Kind};
 use crate::random::Random;
 use crate::record;
@@ -20,6 +21,12 @@ pub fn description(random: &mut Random) -> Vec<u8> {
         }
     }
     text
+}
+
+/// Such a description, and a list that has room, or in one case of ten has not.
+pub fn loader(random: &mut Random) -> LoaderCase {
+    let room = if random.chance(90) { random.pick(&[8_192, 8_193, 8_200]) } else { random.pick(&[0, 8_190, 8_191]) };
+    LoaderCase { room, text: description(random) }
 }
 
 /// The points in file order with spaces, leading zeros and blank lines wherever they are allowed.
@@ -102,12 +109,6 @@ pub fn point_list(random: &mut Random) -> Vec<i16> {
 
 // ---- sheets
 
-/// A glyph number and a sheet.
-pub struct SheetCase {
-    pub k: u16,
-    pub bytes: Vec<u8>,
-}
-
 /// A sheet of up to five parts with gaps and empty parts, damaged in two cases of three.
 pub fn sheet(random: &mut Random) -> SheetCase {
     let count = random.below(6);
@@ -161,6 +162,15 @@ fn damage_pairs(pairs: &mut [(u16, u16)], random: &mut Random) {
         2 => pairs.swap(i, j),
         _ => pairs[i] = (random.word() as u16, random.word() as u16),
     }
+}
+
+/// A few bytes, and a place that lies within them, reaches beyond or is none at all.
+pub fn part(random: &mut Random) -> PartCase {
+    let bytes: Vec<u8> = (0..random.below(9)).map(|i| b'a' + i as u8).collect();
+    let far = random.pick(&[usize::MAX, usize::MAX - 8, 1 << 63, 65_536]);
+    let place = |random: &mut Random| if random.chance(90) { random.below(bytes.len() + 2) } else { far };
+    let (start, length) = (place(random), place(random));
+    PartCase { start, length, bytes }
 }
 
 // ---- records
@@ -241,13 +251,7 @@ fn damage_points(bytes: &mut [u8], random: &mut Random) {
 
 // ---- what the writer is given
 
-/// A disk and support set, valid or not, and the length of the buffer.
-pub struct WriterCase {
-    pub room: u8,
-    pub disk: Disk,
-    pub support: SupportSet,
-}
-
+/// A disk and support set, valid or not, and a buffer of any length up to 60.
 pub fn writer(random: &mut Random) -> WriterCase {
     let room = random.pick(&[0, 1, 43, 44, 44, 44, 45, 50, 60]);
     let disk = if random.chance(70) { valid_disk(random) } else { edge_disk(random) };

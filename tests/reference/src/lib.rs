@@ -17,17 +17,22 @@
 //! | [`record`] | validity, writer and reader |
 //! | [`figures`] | the cutting radius and the preview |
 //! | [`listing`] | what the listing program prints |
+//! | [`inputs`] | what a call is given |
 //! | [`random`], [`lists`], [`damage`] | drawn lists, descriptions, sheets and records, each by its seed |
 //! | [`worst`] | lists that cost many tests |
 //! | [`letters`] | the letters A to K of document 01 |
-//! | [`vectors`] | the stored cases and their layout |
+//! | [`edges`] | the edges of document 01, by hand |
+//! | [`vectors`] | a case of the test program for each call, in its layout |
+//! | [`stored`] | the stored cases |
 
 pub mod damage;
 pub mod definition;
 pub mod description;
+pub mod edges;
 pub mod engine;
 pub mod figures;
 pub mod geometry;
+pub mod inputs;
 pub mod letters;
 pub mod listing;
 pub mod lists;
@@ -37,6 +42,7 @@ pub mod record;
 pub mod refusal;
 pub mod sheet;
 pub mod smallest;
+pub mod stored;
 pub mod support;
 pub mod vectors;
 pub mod worst;

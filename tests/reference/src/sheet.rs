@@ -15,6 +15,12 @@ pub fn glyph(sheet: &[u8], k: usize) -> Result<Range<usize>, Refusal> {
     parts.get(k).cloned().ok_or(Refusal::NoGlyph)
 }
 
+/// The bytes of the sheet at a place; none where they do not all lie in it.
+pub fn part(sheet: &[u8], start: usize, length: usize) -> &[u8] {
+    let end = start.checked_add(length);
+    end.and_then(|end| sheet.get(start..end)).unwrap_or(&[])
+}
+
 fn number_at(sheet: &[u8], at: usize) -> Option<usize> {
     let bytes = sheet.get(at..at + 2)?;
     Some(usize::from(bytes[0]) * 256 + usize::from(bytes[1]))
