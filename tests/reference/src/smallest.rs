@@ -49,4 +49,16 @@ mod tests {
             assert!((-250 * disk.e..=750 * disk.e).contains(&disk.y), "{}", case.name);
         }
     }
+
+    #[test]
+    fn order_and_repeats_do_not_matter() {
+        for case in lists::mixed(500, 30) {
+            let disk = smallest_disk(&case.points);
+            let first = first_support_set(&case.points, &disk);
+            let mut other: Vec<Point> = case.points.iter().rev().copied().collect();
+            other.extend_from_slice(&case.points);
+            assert_eq!(smallest_disk(&other), disk, "{}", case.name);
+            assert_eq!(first_support_set(&other, &disk), first, "{}", case.name);
+        }
+    }
 }

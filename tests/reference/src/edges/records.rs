@@ -102,7 +102,7 @@ fn squares() -> impl Iterator<Item = Writing> {
     disks.flat_map(|(r, x, e)| beside_square(r, x, e))
 }
 
-/// The radius R up to S at R²E², and R + 1 behind it. A step below 1 there is only 0.
+/// The radius is R at S = R²E² and a step below, R + 1 a step above. But a step below S = 1 is 0, which has the radius 0.
 fn beside_square(r: u64, x: i128, e: i128) -> impl Iterator<Item = Writing> {
     let says = "the least whole number R, 0 or more, with R²E² at least S";
     let square = (i128::from(r) * e).pow(2);
