@@ -5,7 +5,7 @@
 //!
 //! | Module | What it is |
 //! |---|---|
-//! | [`refusal`] | the refusal numbers |
+//! | [`refusal`], [`limits`] | the refusal numbers; the em box and the other limits |
 //! | [`geometry`] | points, disks in lowest terms, containment, the disks of one, two and three points |
 //! | [`definition`] | the smallest disk of a few points, by its definition |
 //! | [`smallest`] | the smallest enclosing disk, by growing a set of at most three points |
@@ -34,6 +34,7 @@ pub mod figures;
 pub mod geometry;
 pub mod inputs;
 pub mod letters;
+pub mod limits;
 pub mod listing;
 pub mod lists;
 pub mod procedure;

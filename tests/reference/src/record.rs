@@ -1,10 +1,9 @@
 //! The record: validity, writer and reader (document 01, "Description, sheet, record").
 
 use crate::geometry::{gcd, Disk, Point};
+use crate::limits::RECORD_LENGTH;
 use crate::refusal::Refusal;
 use crate::support::SupportSet;
-
-pub const RECORD_LENGTH: usize = 44;
 
 /// Whether a valid record can hold the disk and support set: refusal 7 if not.
 pub fn check(disk: &Disk, support: &[Point]) -> Result<(), Refusal> {
@@ -16,12 +15,7 @@ pub fn check(disk: &Disk, support: &[Point]) -> Result<(), Refusal> {
 }
 
 fn is_valid_disk(disk: &Disk) -> bool {
-    let Disk { x, y, e, s } = *disk;
-    (1..=2_000_000).contains(&e)
-        && gcd(gcd(x, y), e) == 1
-        && (0..=1000 * e).contains(&x)
-        && (-250 * e..=750 * e).contains(&y)
-        && (0..=500_000 * e * e).contains(&s)
+    disk.is_within_limits() && gcd(gcd(disk.x, disk.y), disk.e) == 1
 }
 
 fn is_valid_support(support: &[Point]) -> bool {

@@ -1,6 +1,7 @@
 //! The sheet opener (document 01, "Description, sheet, record").
 
-use crate::refusal::{Refusal, MOST_BYTES};
+use crate::limits::MOST_BYTES;
+use crate::refusal::Refusal;
 use std::ops::Range;
 
 /// Where part k lies in the sheet: refusals 1, 6, 10.

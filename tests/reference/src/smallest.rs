@@ -43,10 +43,7 @@ mod tests {
         for case in lists::mixed(2_000, 60) {
             let disk = smallest_disk(&case.points);
             assert!(disk.holds_all(&case.points), "{}", case.name);
-            assert!((1..=2_000_000).contains(&disk.e), "{}", case.name);
-            assert!(disk.s <= 500_000 * disk.e * disk.e, "{}", case.name);
-            assert!((0..=1000 * disk.e).contains(&disk.x), "{}", case.name);
-            assert!((-250 * disk.e..=750 * disk.e).contains(&disk.y), "{}", case.name);
+            assert!(disk.is_within_limits(), "{}", case.name);
         }
     }
 

@@ -1,10 +1,11 @@
 //! The cases that the repository keeps, and further ones by their seed.
 
 use crate::damage;
-use crate::description::{describe, LIST_LENGTH};
+use crate::description::describe;
 use crate::edges;
 use crate::geometry::Point;
 use crate::letters;
+use crate::limits::{LIST_LENGTH, MOST_POINTS};
 use crate::lists::{self, Kind, KINDS};
 use crate::random::Random;
 use crate::vectors::{engine, from_description, loader, open_sheet, part, reader, writer, Vector};
@@ -96,7 +97,7 @@ fn stored_lists() -> Vec<Vec<Point>> {
     stored.extend(lists::mixed(300, 80).map(|case| case.points));
     stored.extend(lists::mixed(20, 400).map(|case| case.points));
     for kind in [Kind::Uniform, Kind::Outline, Kind::ByDistance] {
-        stored.push(lists::draw(kind, 4_096, &mut Random::new(3)));
+        stored.push(lists::draw(kind, MOST_POINTS, &mut Random::new(3)));
     }
     stored.extend(worst::short_lists());
     stored

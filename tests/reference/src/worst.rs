@@ -1,10 +1,11 @@
 //! Lists that cost many tests.
 //!
-//! Points that come from the inside out are mostly outside when they are tested: [`Kind::Growing`] goes round while the radius grows,
-//! [`Kind::ByDistance`] sorts drawn points by their distance from the middle of the em box. At 4,096 points the latter is the worst
-//! kind found, with some 8.2 million tests. For short lists [`climb`] comes nearer to the bound.
+//! Points that come from the inside out are mostly outside when they are tested: [`Kind::Growing`] goes round while the radius
+//! grows, [`Kind::ByDistance`] sorts drawn points by their distance from the middle of the em box. At 4,096 points the latter is the
+//! worst kind found, with some 8.2 million tests. For short lists [`climb`] comes nearer to the bound.
 
 use crate::geometry::Point;
+use crate::limits::{FOOT, LEFT, RIGHT, TOP};
 use crate::lists::{draw, Kind};
 use crate::procedure;
 use crate::random::Random;
@@ -34,7 +35,7 @@ fn changed(points: &[Point], random: &mut Random) -> Vec<Point> {
     let mut next = points.to_vec();
     let (i, j) = (random.below(next.len()), random.below(next.len()));
     match random.below(4) {
-        0 => next[i] = Point::new(random.coordinate(0, 1000), random.coordinate(-250, 750)),
+        0 => next[i] = Point::new(random.coordinate(LEFT, RIGHT), random.coordinate(FOOT, TOP)),
         1 => next[i] = nudged(next[i], random),
         2 => next.swap(i, j),
         _ => {
@@ -47,8 +48,8 @@ fn changed(points: &[Point], random: &mut Random) -> Vec<Point> {
 
 fn nudged(p: Point, random: &mut Random) -> Point {
     let reach = random.pick(&[1, 5, 40]);
-    let x = (p.x + random.coordinate(-reach, reach)).clamp(0, 1000);
-    let y = (p.y + random.coordinate(-reach, reach)).clamp(-250, 750);
+    let x = (p.x + random.coordinate(-reach, reach)).clamp(LEFT, RIGHT);
+    let y = (p.y + random.coordinate(-reach, reach)).clamp(FOOT, TOP);
     Point::new(x, y)
 }
 
