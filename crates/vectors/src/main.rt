@@ -6,28 +6,28 @@ ghost use Prim.Native.Nat.{_≤_};
 
 fn print_radius(d: Disk, t: SupportSet) {
     match record::whole_radius(d, t) {
-        record::Radius::Whole(r) => lines::print_count(b"whole", r),
-        record::Radius::Refused(r) => lines::print_refusal(r),
+        record::Radius::Whole(r) => printing::print_count(b"whole", r),
+        record::Radius::Refused(r) => printing::print_refusal(r),
     }
 }
 
 // The bits of a float; those of a NaN are not asked for.
 fn print_float(v: f64) {
     if v == v {
-        lines::print_bits(f64::to_bits(v));
+        printing::print_bits(f64::to_bits(v));
     }
 }
 
 fn print_preview(d: Disk, t: SupportSet) {
     match preview::preview_of(d, t) {
         preview::Shown::At(p) => {
-            lines::print_text(b"preview");
+            printing::print_text(b"preview");
             print_float(p.x);
             print_float(p.y);
             print_float(p.radius);
-            lines::print_text(b"\n");
+            printing::print_text(b"\n");
         }
-        preview::Shown::Refused(r) => lines::print_refusal(r),
+        preview::Shown::Refused(r) => printing::print_refusal(r),
     }
 }
 
@@ -35,14 +35,14 @@ fn print_preview(d: Disk, t: SupportSet) {
 fn solve(list: &mut [i16]) {
     match engine::smallest_disk(list) {
         engine::Enclosed::Found(d, t, tests) => {
-            lines::print_disk(d);
-            lines::print_support(t);
+            printing::print_disk(d);
+            printing::print_support(t);
             print_radius(d, t);
-            lines::print_count(b"tests", tests);
+            printing::print_count(b"tests", tests);
         }
-        engine::Enclosed::Refused(r) => lines::print_refusal(r),
+        engine::Enclosed::Refused(r) => printing::print_refusal(r),
     }
-    lines::print_count(b"left", checksum::of_list(list));
+    printing::print_count(b"left", checksum::of_list(list));
 }
 
 // D: a description, through loader, engine and cutting radius.
@@ -54,7 +54,7 @@ fn run_listing(text: &[u8]) {
                 solve(&mut list[..2 * n]);
             }
         }
-        description::Loaded::Refused(r) => lines::print_refusal(r),
+        description::Loaded::Refused(r) => printing::print_refusal(r),
     }
 }
 
@@ -70,10 +70,10 @@ fn run_engine(bytes: &[u8]) {
 
 fn load(text: &[u8], list: &mut [i16]) {
     match description::load(text, list) {
-        description::Loaded::Points(n) => lines::print_count(b"points", n as u64),
-        description::Loaded::Refused(r) => lines::print_refusal(r),
+        description::Loaded::Points(n) => printing::print_count(b"points", n as u64),
+        description::Loaded::Refused(r) => printing::print_refusal(r),
     }
-    lines::print_count(b"list", checksum::of_list(list));
+    printing::print_count(b"list", checksum::of_list(list));
 }
 
 fn wide(b: u8) -> usize
@@ -100,16 +100,16 @@ fn run_loader(bytes: &[u8]) {
 
 fn print_part(sheet: &[u8], start: usize, len: usize) {
     let bytes = sheet::part(sheet, start, len);
-    lines::print_pair(b"bytes", bytes.len() as u64, checksum::of_bytes(bytes));
+    printing::print_pair(b"bytes", bytes.len() as u64, checksum::of_bytes(bytes));
 }
 
 fn open(sheet: &[u8], k: usize) {
     match sheet::glyph(sheet, k) {
         sheet::Opened::Part(start, len) => {
-            lines::print_pair(b"part", start as u64, len as u64);
+            printing::print_pair(b"part", start as u64, len as u64);
             print_part(sheet, start, len);
         }
-        sheet::Opened::Refused(r) => lines::print_refusal(r),
+        sheet::Opened::Refused(r) => printing::print_refusal(r),
     }
 }
 
@@ -133,12 +133,12 @@ fn run_part(bytes: &[u8]) {
 fn run_reader(bytes: &[u8]) {
     match record::read_record(bytes) {
         record::Record::Read(d, t) => {
-            lines::print_disk(d);
-            lines::print_support(t);
+            printing::print_disk(d);
+            printing::print_support(t);
             print_radius(d, t);
             print_preview(d, t);
         }
-        record::Record::Refused(r) => lines::print_refusal(r),
+        record::Record::Refused(r) => printing::print_refusal(r),
     }
 }
 
@@ -174,10 +174,10 @@ fn get_disk(bytes: &[u8]) -> Disk {
 
 fn write(d: Disk, t: SupportSet, buffer: &mut [u8]) {
     match record::write_record(d, t, buffer) {
-        record::Written::Done => lines::print_text(b"written\n"),
-        record::Written::Refused(r) => lines::print_refusal(r),
+        record::Written::Done => printing::print_text(b"written\n"),
+        record::Written::Refused(r) => printing::print_refusal(r),
     }
-    lines::print_count(b"buffer", checksum::of_bytes(buffer));
+    printing::print_count(b"buffer", checksum::of_bytes(buffer));
 }
 
 // W: the length of a buffer, the number of points, a disk and three points, through cutting radius, preview and writer.
