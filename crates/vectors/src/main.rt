@@ -6,28 +6,28 @@ ghost use Prim.Native.Nat.{_≤_};
 
 fn print_radius(d: Disk, t: SupportSet) {
     match radius::whole_radius(d, t) {
-        radius::Radius::Whole(r) => cases::print_count(b"whole", r),
-        radius::Radius::Refused(r) => cases::print_refusal(r),
+        radius::Radius::Whole(r) => printing::print_count(b"whole", r),
+        radius::Radius::Refused(r) => printing::print_refusal(r),
     }
 }
 
 // The bits of a float; those of a NaN are not asked for.
 fn print_float(v: f64) {
     if v == v {
-        cases::print_bits(f64::to_bits(v));
+        printing::print_bits(f64::to_bits(v));
     }
 }
 
 fn print_preview(d: Disk, t: SupportSet) {
     match preview::preview_of(d, t) {
         preview::Shown::At(p) => {
-            cases::print_text(b"preview");
+            printing::print_text(b"preview");
             print_float(p.x);
             print_float(p.y);
             print_float(p.radius);
-            cases::print_text(b"\n");
+            printing::print_text(b"\n");
         }
-        preview::Shown::Refused(r) => cases::print_refusal(r),
+        preview::Shown::Refused(r) => printing::print_refusal(r),
     }
 }
 
@@ -35,27 +35,29 @@ fn print_preview(d: Disk, t: SupportSet) {
 fn solve(list: &mut [i16]) {
     match engine::smallest_disk(list) {
         engine::Enclosed::Found(d, t, tests) => {
-            cases::print_disk(d);
-            cases::print_support(t);
-            print_radius(d, t);
-            cases::print_count(b"tests", tests);
+            report::print_enclosure(d, t, tests);
         }
-        engine::Enclosed::Refused(r) => cases::print_refusal(r),
+        engine::Enclosed::Refused(r) => printing::print_refusal(r),
     }
-    cases::print_count(b"left", cases::list_checksum(list));
+    printing::print_count(b"left", checksum::of_list(list));
 }
 
-// D: a description, through loader, engine and cutting radius.
-fn run_listing(text: &[u8]) {
+// The list that the engine leaves, of an accepted description.
+fn print_left(text: &[u8]) {
     let mut list = [0i16; 8192];
-    match description::load(text, &mut list) {
-        description::Loaded::Points(n) => {
-            if n <= 4096 {
-                solve(&mut list[..2 * n]);
-            }
-        }
-        description::Loaded::Refused(r) => cases::print_refusal(r),
+    let description::Loaded::Points(n) = description::load(text, &mut list) else {
+        return;
+    };
+    if n <= 4096 {
+        engine::smallest_disk(&mut list[..2 * n]);
+        printing::print_count(b"left", checksum::of_list(&list[..2 * n]));
     }
+}
+
+// D: a description, as the listing prints it, and the list that the engine leaves.
+fn run_listing(text: &[u8]) {
+    report::print_description(text);
+    print_left(text);
 }
 
 // E: a list of points, through the engine.
@@ -68,29 +70,12 @@ fn run_engine(bytes: &[u8]) {
     }
 }
 
-// L: a description, through the loader.
-fn run_loader(text: &[u8]) {
-    let mut list = [12321i16; 8192];
-    match description::load(text, &mut list) {
-        description::Loaded::Points(n) => cases::print_count(b"points", n as u64),
-        description::Loaded::Refused(r) => cases::print_refusal(r),
+fn load(text: &[u8], list: &mut [i16]) {
+    match description::load(text, list) {
+        description::Loaded::Points(n) => printing::print_count(b"points", n as u64),
+        description::Loaded::Refused(r) => printing::print_refusal(r),
     }
-    cases::print_count(b"list", cases::list_checksum(&list));
-}
-
-fn print_part(sheet: &[u8], start: usize, len: usize) {
-    cases::print_text(b"part");
-    cases::print_natural(start as u64);
-    cases::print_natural(len as u64);
-    cases::print_natural(cases::byte_checksum(sheet::part(sheet, start, len)));
-    cases::print_text(b"\n");
-}
-
-fn open(sheet: &[u8], k: usize) {
-    match sheet::glyph(sheet, k) {
-        sheet::Opened::Part(start, len) => print_part(sheet, start, len),
-        sheet::Opened::Refused(r) => cases::print_refusal(r),
-    }
+    printing::print_count(b"list", checksum::of_list(list));
 }
 
 fn wide(b: u8) -> usize
@@ -99,11 +84,50 @@ fn wide(b: u8) -> usize
     b as usize
 }
 
+// The number of two bytes, high byte first.
+fn joined(high: u8, low: u8) -> usize {
+    256 * wide(high) + wide(low)
+}
+
+// L: the length of the lent list in two bytes, then a description, through the loader.
+fn run_loader(bytes: &[u8]) {
+    if 2 <= bytes.len() {
+        let room = joined(bytes[0], bytes[1]);
+        let mut list = [12321i16; 8200];
+        if room <= 8200 {
+            load(&bytes[2..], &mut list[..room]);
+        }
+    }
+}
+
+fn print_part(sheet: &[u8], start: usize, len: usize) {
+    let bytes = sheet::part(sheet, start, len);
+    printing::print_pair(b"bytes", bytes.len() as u64, checksum::of_bytes(bytes));
+}
+
+fn open(sheet: &[u8], k: usize) {
+    match sheet::glyph(sheet, k) {
+        sheet::Opened::Part(start, len) => {
+            printing::print_pair(b"part", start as u64, len as u64);
+            print_part(sheet, start, len);
+        }
+        sheet::Opened::Refused(r) => printing::print_refusal(r),
+    }
+}
+
 // S: a glyph number in two bytes, then the sheet.
 fn run_sheet(bytes: &[u8]) {
     if 2 <= bytes.len() {
-        let k = 256 * wide(bytes[0]) + wide(bytes[1]);
-        open(&bytes[2..], k);
+        open(&bytes[2..], joined(bytes[0], bytes[1]));
+    }
+}
+
+// P: a start and a length in eight bytes each, then the sheet.
+fn run_part(bytes: &[u8]) {
+    if 16 <= bytes.len() {
+        let start = cases::word_at(bytes, 0);
+        let len = cases::word_at(bytes, 8);
+        print_part(&bytes[16..], start as usize, len as usize);
     }
 }
 
@@ -111,12 +135,12 @@ fn run_sheet(bytes: &[u8]) {
 fn run_reader(bytes: &[u8]) {
     match record_reader::read_record(bytes) {
         record_reader::Record::Read(d, t) => {
-            cases::print_disk(d);
-            cases::print_support(t);
+            printing::print_disk(d);
+            printing::print_support(t);
             print_radius(d, t);
             print_preview(d, t);
         }
-        record_reader::Record::Refused(r) => cases::print_refusal(r),
+        record_reader::Record::Refused(r) => printing::print_refusal(r),
     }
 }
 
@@ -152,10 +176,10 @@ fn get_disk(bytes: &[u8]) -> Disk {
 
 fn write(d: Disk, t: SupportSet, buffer: &mut [u8]) {
     match record_writer::write_record(d, t, buffer) {
-        record_writer::Written::Done => cases::print_text(b"written\n"),
-        record_writer::Written::Refused(r) => cases::print_refusal(r),
+        record_writer::Written::Done => printing::print_text(b"written\n"),
+        record_writer::Written::Refused(r) => printing::print_refusal(r),
     }
-    cases::print_count(b"buffer", cases::byte_checksum(buffer));
+    printing::print_count(b"buffer", checksum::of_bytes(buffer));
 }
 
 // W: the length of a buffer, the number of points, a disk and three points, through cutting radius, preview and writer.
@@ -177,6 +201,7 @@ fn run_case(call: u8, bytes: &[u8]) {
         b'E' => run_engine(bytes),
         b'L' => run_loader(bytes),
         b'S' => run_sheet(bytes),
+        b'P' => run_part(bytes),
         b'R' => run_reader(bytes),
         b'W' => run_writer(bytes),
         _ => {}

@@ -2,6 +2,8 @@
 
 use crate::engine;
 use crate::geometry::{gcd, Disk, Point};
+use crate::inputs::{LoaderCase, PartCase, SheetCase, WriterCase};
+use crate::limits::{FOOT, LEFT, LIST_LENGTH, MOST_E, MOST_SQUARE, RIGHT, TOP};
 use crate::lists::{self, Kind};
 use crate::random::Random;
 use crate::record;
@@ -20,6 +22,16 @@ pub fn description(random: &mut Random) -> Vec<u8> {
         }
     }
     text
+}
+
+/// Such a description, and a list that has room, or in one case of ten has not.
+pub fn loader(random: &mut Random) -> LoaderCase {
+    let room = if random.chance(90) {
+        LIST_LENGTH + random.pick(&[0, 1, 8])
+    } else {
+        random.pick(&[0, LIST_LENGTH - 2, LIST_LENGTH - 1])
+    };
+    LoaderCase { room, text: description(random) }
 }
 
 /// The points in file order with spaces, leading zeros and blank lines wherever they are allowed.
@@ -94,19 +106,13 @@ pub fn point_list(random: &mut Random) -> Vec<i16> {
     match random.below(8) {
         0 => list.truncate(at),
         1 => list.push(random.word() as i16),
-        2 | 3 => list[at] = random.pick(&[-1, 1001, -251, 751, i16::MIN, i16::MAX]),
+        2 | 3 => list[at] = random.pick(&[LEFT - 1, RIGHT + 1, FOOT - 1, TOP + 1, i16::MIN, i16::MAX]),
         _ => (),
     }
     list
 }
 
 // ---- sheets
-
-/// A glyph number and a sheet.
-pub struct SheetCase {
-    pub k: u16,
-    pub bytes: Vec<u8>,
-}
 
 /// A sheet of up to five parts with gaps and empty parts, damaged in two cases of three.
 pub fn sheet(random: &mut Random) -> SheetCase {
@@ -163,6 +169,15 @@ fn damage_pairs(pairs: &mut [(u16, u16)], random: &mut Random) {
     }
 }
 
+/// A few bytes, and a place that lies within them, reaches beyond or is none at all.
+pub fn part(random: &mut Random) -> PartCase {
+    let bytes: Vec<u8> = (0..random.below(9)).map(|i| b'a' + i as u8).collect();
+    let far = random.pick(&[usize::MAX, usize::MAX - 8, 1 << 63, 65_536]);
+    let place = |random: &mut Random| if random.chance(90) { random.below(bytes.len() + 2) } else { far };
+    let (start, length) = (place(random), place(random));
+    PartCase { start, length, bytes }
+}
+
 // ---- records
 
 /// A record: valid in about half of the cases, otherwise wrong in a field, in its points' order or in its length.
@@ -184,24 +199,26 @@ pub fn record(random: &mut Random) -> Vec<u8> {
 
 /// Wherever in the rules' limits.
 fn valid_disk(random: &mut Random) -> Disk {
-    let limit = random.pick(&[1, 2, 6, 1_000, 2_000_000]);
+    let limit = random.pick(&[1, 2, 6, 1_000, MOST_E as i64]);
     let e = random.between(1, limit);
-    let x = random.between(0, 1000 * e);
-    let y = random.between(-250 * e, 750 * e);
+    let x = random.between(i64::from(LEFT) * e, i64::from(RIGHT) * e);
+    let y = random.between(i64::from(FOOT) * e, i64::from(TOP) * e);
     let disk = Disk { x: x.into(), y: y.into(), e: e.into(), s: 0 };
     let divisor = gcd(gcd(disk.x, disk.y), disk.e);
     let e = disk.e / divisor;
-    let s = random.between(0, (500_000 * e * e) as i64).into();
+    let s = random.between(0, (MOST_SQUARE * e * e) as i64).into();
     Disk { x: disk.x / divisor, y: disk.y / divisor, e, s }
 }
 
 /// A disk at a limit or a step beyond it.
 fn edge_disk(random: &mut Random) -> Disk {
-    let e = i128::from(random.pick(&[0, 1, 2, 1_999_999, 2_000_000, 2_000_001]));
+    let e = random.pick(&[0, 1, 2, MOST_E - 1, MOST_E, MOST_E + 1]);
     let step = i128::from(random.between(-1, 1));
-    let x = random.pick(&[0, 1, 1000 * e, 1000 * e + step, step]);
-    let y = random.pick(&[1, -250 * e, -250 * e + step, 750 * e, 750 * e + step]);
-    let s = random.pick(&[0, 500_000 * e * e, (500_000 * e * e + step).max(0)]);
+    let [left, right, foot, top] = [LEFT, RIGHT, FOOT, TOP].map(|edge| i128::from(edge) * e);
+    let x = random.pick(&[left, 1, right, right + step, left + step]);
+    let y = random.pick(&[1, foot, foot + step, top, top + step]);
+    let largest = MOST_SQUARE * e * e;
+    let s = random.pick(&[0, largest, (largest + step).max(0)]);
     Disk { x, y, e, s }
 }
 
@@ -233,7 +250,7 @@ fn damage_points(bytes: &mut [u8], random: &mut Random) {
         1 => bytes.copy_within(i..i + 4, j),
         _ => {
             let at = i + 2 * random.below(2);
-            let edge: i16 = random.pick(&[-1, 0, 1000, 1001, -250, -251, 750, 751, i16::MIN, i16::MAX]);
+            let edge: i16 = random.pick(&[LEFT - 1, LEFT, RIGHT, RIGHT + 1, FOOT, FOOT - 1, TOP, TOP + 1, i16::MIN, i16::MAX]);
             bytes[at..at + 2].copy_from_slice(&edge.to_be_bytes());
         }
     }
@@ -241,13 +258,7 @@ fn damage_points(bytes: &mut [u8], random: &mut Random) {
 
 // ---- what the writer is given
 
-/// A disk and support set, valid or not, and the length of the buffer.
-pub struct WriterCase {
-    pub room: u8,
-    pub disk: Disk,
-    pub support: SupportSet,
-}
-
+/// A disk and support set, valid or not, and a buffer of any length up to 60.
 pub fn writer(random: &mut Random) -> WriterCase {
     let room = random.pick(&[0, 1, 43, 44, 44, 44, 45, 50, 60]);
     let disk = if random.chance(70) { valid_disk(random) } else { edge_disk(random) };
@@ -255,8 +266,8 @@ pub fn writer(random: &mut Random) -> WriterCase {
     match random.below(10) {
         0 => support.reverse(),
         1 => support = vec![support[0]; 1 + random.below(3)],
-        2 => support[0].x = random.pick(&[-1, 1001, i16::MIN, i16::MAX]),
-        3 => support[0].y = random.pick(&[-251, 751, i16::MIN, i16::MAX]),
+        2 => support[0].x = random.pick(&[LEFT - 1, RIGHT + 1, i16::MIN, i16::MAX]),
+        3 => support[0].y = random.pick(&[FOOT - 1, TOP + 1, i16::MIN, i16::MAX]),
         _ => (),
     }
     WriterCase { room, disk, support }
@@ -265,6 +276,7 @@ pub fn writer(random: &mut Random) -> WriterCase {
 #[cfg(test)]
 mod tests {
     use super::*;
+    use crate::limits::RECORD_LENGTH;
     use crate::refusal::Refusal;
     use crate::{description::points_of, sheet::glyph};
 
@@ -317,5 +329,21 @@ mod tests {
         };
         let times = seen(5_000, written);
         assert!([0, 7, 8].iter().all(|&number| times[number] > 500), "{times:?}");
+    }
+
+    #[test]
+    fn accepted_records_written_again_are_the_same_bytes() {
+        let mut random = Random::new(44);
+        let mut accepted = 0;
+        for _ in 0..20_000 {
+            let bytes = record(&mut random);
+            if let Ok((disk, support)) = record::read(&bytes) {
+                let mut again = [0; RECORD_LENGTH];
+                assert_eq!(record::write(&disk, &support, &mut again), Ok(()));
+                assert_eq!(again[..], bytes[..]);
+                accepted += 1;
+            }
+        }
+        assert!((5_000..15_000).contains(&accepted), "{accepted} of 20,000 accepted");
     }
 }

@@ -1,10 +1,8 @@
 //! The description loader (document 01, "Description, sheet, record").
 
 use crate::geometry::Point;
-use crate::refusal::{Refusal, MOST_BYTES, MOST_POINTS};
-
-/// The numbers that the loader's list must have room for.
-pub const LIST_LENGTH: usize = 2 * MOST_POINTS;
+use crate::limits::{LIST_LENGTH, MOST_BYTES, MOST_POINTS};
+use crate::refusal::Refusal;
 
 /// Writes the points at the front of the list and returns how many: refusals 8, 1, then by line 2, 3, 4, at the end 5, and then
 /// the list is unchanged.

@@ -1,8 +1,9 @@
 //! The disk engine: a corner list's checks, then disk, support set, count and order left.
 
 use crate::geometry::{Disk, Point};
+use crate::limits::MOST_POINTS;
 use crate::procedure;
-use crate::refusal::{Refusal, MOST_POINTS};
+use crate::refusal::Refusal;
 use crate::smallest::smallest_disk;
 use crate::support::{first_support_set, SupportSet};
 

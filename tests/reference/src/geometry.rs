@@ -1,5 +1,7 @@
 //! Points, disks and containment (document 01, "Disk and rim").
 
+use crate::limits::{FOOT, LEFT, MOST_E, MOST_SQUARE, RIGHT, TOP};
+
 /// A point (document 01: a corner). Points are ordered by x, then y.
 #[derive(Clone, Copy, PartialEq, Eq, PartialOrd, Ord, Hash, Debug)]
 pub struct Point {
@@ -7,17 +9,13 @@ pub struct Point {
     pub y: i16,
 }
 
-/// The em box: the ranges that a point's x and y lie in.
-pub const BOX_X: std::ops::RangeInclusive<i16> = 0..=1000;
-pub const BOX_Y: std::ops::RangeInclusive<i16> = -250..=750;
-
 impl Point {
     pub fn new(x: i16, y: i16) -> Point {
         Point { x, y }
     }
 
     pub fn is_in_em_box(self) -> bool {
-        BOX_X.contains(&self.x) && BOX_Y.contains(&self.y)
+        (LEFT..=RIGHT).contains(&self.x) && (FOOT..=TOP).contains(&self.y)
     }
 
     fn wide(self) -> (i128, i128) {
@@ -97,6 +95,16 @@ impl Disk {
 
     pub fn holds_all(&self, points: &[Point]) -> bool {
         points.iter().all(|&p| self.holds(p))
+    }
+
+    /// Whether E, the centre and the radius are within the limits of every smallest disk. E comes first: with a larger one the
+    /// products could overflow.
+    pub fn is_within_limits(&self) -> bool {
+        let scaled = |least: i16, most: i16| i128::from(least) * self.e..=i128::from(most) * self.e;
+        (1..=MOST_E).contains(&self.e)
+            && scaled(LEFT, RIGHT).contains(&self.x)
+            && scaled(FOOT, TOP).contains(&self.y)
+            && (0..=MOST_SQUARE * self.e * self.e).contains(&self.s)
     }
 
     /// Whether the radius is below the other's.

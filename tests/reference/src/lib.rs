@@ -5,8 +5,9 @@
 //!
 //! | Module | What it is |
 //! |---|---|
-//! | [`refusal`] | the refusal numbers |
+//! | [`refusal`], [`limits`] | the refusal numbers; the em box and the other limits |
 //! | [`geometry`] | points, disks in lowest terms, containment, the disks of one, two and three points |
+//! | [`definition`] | the smallest disk of a few points, by its definition |
 //! | [`smallest`] | the smallest enclosing disk, by growing a set of at most three points |
 //! | [`support`] | the first support set (document 01: rim set), by trying all in order |
 //! | [`procedure`] | Welzl's B_MTFDISK, transcribed: count of tests and order left |
@@ -16,17 +17,24 @@
 //! | [`record`] | validity, writer and reader |
 //! | [`figures`] | the cutting radius and the preview |
 //! | [`listing`] | what the listing program prints |
+//! | [`inputs`] | what a call is given |
 //! | [`random`], [`lists`], [`damage`] | drawn lists, descriptions, sheets and records, each by its seed |
 //! | [`worst`] | lists that cost many tests |
 //! | [`letters`] | the letters A to K of document 01 |
-//! | [`vectors`] | the stored cases and their layout |
+//! | [`edges`] | the edges of document 01, by hand |
+//! | [`vectors`] | a case of the test program for each call, in its layout |
+//! | [`stored`] | the stored cases |
 
 pub mod damage;
+pub mod definition;
 pub mod description;
+pub mod edges;
 pub mod engine;
 pub mod figures;
 pub mod geometry;
+pub mod inputs;
 pub mod letters;
+pub mod limits;
 pub mod listing;
 pub mod lists;
 pub mod procedure;
@@ -35,6 +43,7 @@ pub mod record;
 pub mod refusal;
 pub mod sheet;
 pub mod smallest;
+pub mod stored;
 pub mod support;
 pub mod vectors;
 pub mod worst;

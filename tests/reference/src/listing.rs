@@ -4,6 +4,7 @@ use crate::description;
 use crate::engine::{self, Answer};
 use crate::figures;
 use crate::geometry::Point;
+use crate::limits::LIST_LENGTH;
 use crate::refusal::Refusal;
 use crate::support::SupportSet;
 
@@ -17,7 +18,7 @@ pub fn listing(text: &[u8]) -> String {
 
 /// Loader and engine, the engine given the loader's points alone: the answer and the order left.
 pub fn solved(text: &[u8]) -> Result<(Answer, Vec<Point>), Refusal> {
-    let mut list = vec![0; description::LIST_LENGTH];
+    let mut list = vec![0; LIST_LENGTH];
     let count = description::load(text, &mut list)?;
     let given = &mut list[..2 * count];
     let answer = engine::solve(given)?;

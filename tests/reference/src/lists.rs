@@ -1,8 +1,8 @@
 //! Drawn point lists, each by its seed: the kinds that letters are like, and those that are hard to get right.
 
 use crate::geometry::Point;
+use crate::limits::{FOOT, LEFT, MOST_POINTS, RIGHT, TOP};
 use crate::random::Random;
-use crate::worst;
 
 /// A drawn list; the name says how to draw it again.
 pub struct Case {
@@ -47,10 +47,14 @@ pub const KINDS: [Kind; 10] = [
     Kind::ByDistance,
 ];
 
+/// The middle of the em box, and how far its nearest edge is.
+const MIDDLE: Point = Point { x: (LEFT + RIGHT) / 2, y: (FOOT + TOP) / 2 };
+const REACH: i64 = ((RIGHT - LEFT) / 2) as i64;
+
 /// A list of n points of the kind.
 pub fn draw(kind: Kind, n: usize, random: &mut Random) -> Vec<Point> {
     match kind {
-        Kind::Uniform => in_box(n, random, (0, 1000), (-250, 750)),
+        Kind::Uniform => in_box(n, random, (LEFT, RIGHT), (FOOT, TOP)),
         Kind::SmallBox => small_box(n, random),
         Kind::Repeats => repeats(n, random),
         Kind::Row => row(n, random),
@@ -58,8 +62,8 @@ pub fn draw(kind: Kind, n: usize, random: &mut Random) -> Vec<Point> {
         Kind::Convex => convex(n, random),
         Kind::Outline => outline(n, random),
         Kind::Edges => edges(n, random),
-        Kind::Growing => worst::growing(n, random),
-        Kind::ByDistance => worst::by_distance(n, random),
+        Kind::Growing => growing(n, random),
+        Kind::ByDistance => by_distance(n, random),
     }
 }
 
@@ -73,13 +77,13 @@ pub fn mixed(count: u64, longest: usize) -> impl Iterator<Item = Case> {
     })
 }
 
-/// Lists of 500 to 4,096 points, of each kind.
+/// Lists of 500 points to the most, of each kind.
 pub fn long() -> Vec<Case> {
     let draw_long = |(kind, n): (Kind, usize)| {
         let points = draw(kind, n, &mut Random::new(n as u64));
         Case { name: format!("{kind:?}, {n} points"), points }
     };
-    KINDS.into_iter().flat_map(|kind| [500, 1_500, 4_096].map(|n| (kind, n))).map(draw_long).collect()
+    KINDS.into_iter().flat_map(|kind| [500, 1_500, MOST_POINTS].map(|n| (kind, n))).map(draw_long).collect()
 }
 
 fn in_box(n: usize, random: &mut Random, x: (i16, i16), y: (i16, i16)) -> Vec<Point> {
@@ -88,8 +92,8 @@ fn in_box(n: usize, random: &mut Random, x: (i16, i16), y: (i16, i16)) -> Vec<Po
 
 fn small_box(n: usize, random: &mut Random) -> Vec<Point> {
     let side = random.coordinate(0, 9);
-    let x = random.coordinate(0, 1000 - side);
-    let y = random.coordinate(-250, 750 - side);
+    let x = random.coordinate(LEFT, RIGHT - side);
+    let y = random.coordinate(FOOT, TOP - side);
     in_box(n, random, (x, x + side), (y, y + side))
 }
 
@@ -102,7 +106,7 @@ fn repeats(n: usize, random: &mut Random) -> Vec<Point> {
 /// The points of a row through the box: the start, and a step that stays in it.
 fn row(n: usize, random: &mut Random) -> Vec<Point> {
     let step = (random.between(-9, 9), random.between(-9, 9));
-    let start = (random.between(0, 1000), random.between(-250, 750));
+    let start = (random.between(LEFT.into(), RIGHT.into()), random.between(FOOT.into(), TOP.into()));
     let at = |t: i64| (start.0 + t * step.0, start.1 + t * step.1);
     let on_row: Vec<Point> = (-120..=120).filter_map(|t| point_in_box(at(t))).collect();
     let mut points: Vec<Point> = (0..n).map(|_| random.pick(&on_row)).collect();
@@ -141,8 +145,8 @@ fn rich_circle(random: &mut Random) -> Vec<Point> {
     let square = random.pick(&RICH) * if half == 1 { 2 } else { 4 };
     let reach = (square as u64).isqrt() as i64;
     let least = (reach + 1) / 2;
-    let x = 2 * random.between(least, 1000 - least) + half;
-    let y = 2 * random.between(least - 250, 750 - least) + half;
+    let x = 2 * random.between(i64::from(LEFT) + least, i64::from(RIGHT) - least) + half;
+    let y = 2 * random.between(i64::from(FOOT) + least, i64::from(TOP) - least) + half;
     let on_circle: Vec<Point> = (-reach..=reach).flat_map(|dx| on_column(x, y, dx, square)).collect();
     assert!(!on_circle.is_empty());
     on_circle
@@ -167,8 +171,9 @@ fn halfway(a: Point, b: Point) -> Point {
     Point::new((a.x + b.x) / 2, (a.y + b.y) / 2)
 }
 
-/// Point k of n around the circle of the given radius about (500, 250), rounded to the lattice, by whole numbers alone.
-pub fn around(k: usize, n: usize, radius: i64) -> Point {
+/// Point k of n around the circle of the given radius about the middle of the em box, rounded to the lattice, by whole numbers
+/// alone.
+fn around(k: usize, n: usize, radius: i64) -> Point {
     let (k, n) = (k as i64 % n as i64, n as i64);
     let quarter = 4 * k / n;
     // tan of half the angle within the quarter is f / n.
@@ -181,11 +186,11 @@ pub fn around(k: usize, n: usize, radius: i64) -> Point {
         2 => (-x, -y),
         _ => (y, -x),
     };
-    Point::new((500 + x) as i16, (250 + y) as i16)
+    Point::new(MIDDLE.x + x as i16, MIDDLE.y + y as i16)
 }
 
 fn convex(n: usize, random: &mut Random) -> Vec<Point> {
-    let radius = random.between(20, 500);
+    let radius = random.between(20, REACH);
     let turn = random.below(n);
     let mut points: Vec<Point> = (0..n).map(|k| around(k + turn, n, radius)).collect();
     if random.chance(30) {
@@ -208,7 +213,7 @@ fn outline(n: usize, random: &mut Random) -> Vec<Point> {
 
 fn contour(n: usize, random: &mut Random) -> Vec<Point> {
     let sides = (3 + random.below(10)).min(n);
-    let vertices: Vec<Point> = (0..sides).map(|k| around(k, sides, random.between(60, 500))).collect();
+    let vertices: Vec<Point> = (0..sides).map(|k| around(k, sides, random.between(60, REACH))).collect();
     (0..n).map(|i| along(&vertices, i, n)).collect()
 }
 
@@ -228,7 +233,24 @@ fn edges(n: usize, random: &mut Random) -> Vec<Point> {
         1 => random.coordinate(most - near, most),
         _ => random.coordinate(least, most),
     };
-    (0..n).map(|_| Point::new(edge(0, 1000, random), edge(-250, 750, random))).collect()
+    (0..n).map(|_| Point::new(edge(LEFT, RIGHT, random), edge(FOOT, TOP, random))).collect()
+}
+
+/// Points round the middle with rising radius.
+fn growing(n: usize, random: &mut Random) -> Vec<Point> {
+    let turn = 1 + random.below(n);
+    let radius = |i: usize| 1 + (REACH - 1) * i as i64 / n as i64;
+    (0..n).map(|i| around(i * turn, n, radius(i))).collect()
+}
+
+/// Points anywhere in the em box, the nearest to its middle first.
+fn by_distance(n: usize, random: &mut Random) -> Vec<Point> {
+    let mut points = draw(Kind::Uniform, n, random);
+    points.sort_by_key(|p| {
+        let (dx, dy) = (i32::from(p.x) - i32::from(MIDDLE.x), i32::from(p.y) - i32::from(MIDDLE.y));
+        dx * dx + dy * dy
+    });
+    points
 }
 
 #[cfg(test)]

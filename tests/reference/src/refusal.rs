@@ -20,9 +20,3 @@ impl Refusal {
         self as u8
     }
 }
-
-/// A description or sheet has at most this many bytes.
-pub const MOST_BYTES: usize = 65_535;
-
-/// A list has at most this many points.
-pub const MOST_POINTS: usize = 4_096;

@@ -1,6 +1,7 @@
 //! The sheet opener (document 01, "Description, sheet, record").
 
-use crate::refusal::{Refusal, MOST_BYTES};
+use crate::limits::MOST_BYTES;
+use crate::refusal::Refusal;
 use std::ops::Range;
 
 /// Where part k lies in the sheet: refusals 1, 6, 10.
@@ -13,6 +14,12 @@ pub fn glyph(sheet: &[u8], k: usize) -> Result<Range<usize>, Refusal> {
         return Err(Refusal::BadSheet);
     }
     parts.get(k).cloned().ok_or(Refusal::NoGlyph)
+}
+
+/// The bytes of the sheet at a place; none where they do not all lie in it.
+pub fn part(sheet: &[u8], start: usize, length: usize) -> &[u8] {
+    let end = start.checked_add(length);
+    end.and_then(|end| sheet.get(start..end)).unwrap_or(&[])
 }
 
 fn number_at(sheet: &[u8], at: usize) -> Option<usize> {

@@ -1,39 +1,12 @@
-//! The smallest enclosing disk.
+//! The smallest enclosing disk of a list of any length, and not by Welzl's procedure.
 //!
-//! Two ways, neither of them Welzl's. [`by_definition`] tries every disk of one, two or three of the points and keeps the smallest
-//! that holds them all. [`smallest_disk`] keeps a set of at most three points with its own smallest disk, adds the point farthest
-//! outside and takes the smallest disk of these four by definition. The radius grows with each step, so it ends; the disk it ends on
-//! holds all points and is the smallest of some of them, so it is the smallest of all. Repeats, rows and common circles need no care.
+//! A set of at most three points is kept with its own smallest disk; the point farthest outside is added, and the smallest disk of
+//! these four taken by definition. The radius grows with each step, so it ends; the disk it ends on holds all points and is the
+//! smallest of some of them, so it is the smallest of all. Repeats, rows and common circles need no care.
 
+use crate::definition::by_definition;
 use crate::geometry::{Disk, Point};
 use crate::support::first_support_set;
-
-/// The smallest disk of a few points: of the disks of one, two and three of them that hold all, the one with the least radius.
-/// The number of steps is the fourth power of the number of points.
-pub fn by_definition(points: &[Point]) -> Disk {
-    let mut best: Option<Disk> = None;
-    for disk in candidates(points) {
-        let is_better = best.is_none_or(|b| disk.is_smaller_than(&b));
-        if is_better && disk.holds_all(points) {
-            best = Some(disk);
-        }
-    }
-    best.expect("a list of one point or more has a smallest disk")
-}
-
-/// The disks of all sets of one, two and three of the points.
-fn candidates(points: &[Point]) -> Vec<Disk> {
-    let mut disks = Vec::new();
-    for (i, &a) in points.iter().enumerate() {
-        disks.push(Disk::of_one(a));
-        for (j, &b) in points.iter().enumerate().skip(i + 1) {
-            disks.push(Disk::of_two(a, b));
-            let thirds = points.iter().skip(j + 1);
-            disks.extend(thirds.filter_map(|&c| Disk::of_three(a, b, c)));
-        }
-    }
-    disks
-}
 
 /// The smallest enclosing disk of a list of one point or more.
 pub fn smallest_disk(points: &[Point]) -> Disk {
@@ -59,7 +32,7 @@ mod tests {
     use crate::lists;
 
     #[test]
-    fn both_ways_agree_on_short_lists() {
+    fn it_is_the_smallest_by_definition_on_short_lists() {
         for case in lists::mixed(3_000, 12) {
             assert_eq!(smallest_disk(&case.points), by_definition(&case.points), "{}", case.name);
         }
@@ -70,10 +43,19 @@ mod tests {
         for case in lists::mixed(2_000, 60) {
             let disk = smallest_disk(&case.points);
             assert!(disk.holds_all(&case.points), "{}", case.name);
-            assert!((1..=2_000_000).contains(&disk.e), "{}", case.name);
-            assert!(disk.s <= 500_000 * disk.e * disk.e, "{}", case.name);
-            assert!((0..=1000 * disk.e).contains(&disk.x), "{}", case.name);
-            assert!((-250 * disk.e..=750 * disk.e).contains(&disk.y), "{}", case.name);
+            assert!(disk.is_within_limits(), "{}", case.name);
+        }
+    }
+
+    #[test]
+    fn order_and_repeats_do_not_matter() {
+        for case in lists::mixed(500, 30) {
+            let disk = smallest_disk(&case.points);
+            let first = first_support_set(&case.points, &disk);
+            let mut other: Vec<Point> = case.points.iter().rev().copied().collect();
+            other.extend_from_slice(&case.points);
+            assert_eq!(smallest_disk(&other), disk, "{}", case.name);
+            assert_eq!(first_support_set(&other, &disk), first, "{}", case.name);
         }
     }
 }

@@ -1,7 +1,7 @@
 //! The first support set (document 01: the first rim set).
 
+use crate::definition::by_definition;
 use crate::geometry::{Disk, Point};
-use crate::smallest::by_definition;
 
 /// One to three different points in rising order.
 pub type SupportSet = Vec<Point>;
@@ -52,26 +52,14 @@ fn first_of_size(points: &[Point], size: usize, chosen: &mut Vec<Point>, disk: &
 #[cfg(test)]
 mod tests {
     use super::*;
-    use crate::{lists, smallest::smallest_disk};
+    use crate::lists;
 
     #[test]
     fn points_inside_are_in_no_first_set() {
         for case in lists::mixed(2_000, 10) {
-            let disk = smallest_disk(&case.points);
+            let disk = by_definition(&case.points);
             let all = first_by_definition(&case.points, &disk);
             assert_eq!(first_support_set(&case.points, &disk), all, "{}", case.name);
-        }
-    }
-
-    #[test]
-    fn order_and_repeats_do_not_matter() {
-        for case in lists::mixed(500, 30) {
-            let disk = smallest_disk(&case.points);
-            let first = first_support_set(&case.points, &disk);
-            let mut other: Vec<Point> = case.points.iter().rev().copied().collect();
-            other.extend_from_slice(&case.points);
-            assert_eq!(smallest_disk(&other), disk, "{}", case.name);
-            assert_eq!(first_support_set(&other, &disk), first, "{}", case.name);
         }
     }
 }

@@ -1,19 +1,15 @@
-//! The cases of the test program `crates/vectors`: what it reads and what it must print.
+//! A case of the test program `crates/vectors` for each call: what it reads and what it must print.
 //!
 //! `tests/README.md` has the layout.
 
-use crate::damage::{self, SheetCase, WriterCase};
-use crate::description::{self, describe, LIST_LENGTH};
+use crate::description;
 use crate::engine::{self, flat};
 use crate::figures;
 use crate::geometry::{Disk, Point};
-use crate::letters;
+use crate::inputs::{LoaderCase, PartCase, SheetCase, WriterCase};
 use crate::listing;
-use crate::lists::{self, Kind, KINDS};
-use crate::random::Random;
 use crate::record;
 use crate::sheet;
-use crate::worst;
 
 /// A case: the call that it is for, the bytes given and the lines printed.
 pub struct Vector {
@@ -31,8 +27,10 @@ pub enum Call {
     Engine = b'E' as isize,
     /// The loader alone.
     Loader = b'L' as isize,
-    /// The sheet opener.
+    /// The sheet opener, then the part it found.
     Sheet = b'S' as isize,
+    /// A part of a sheet, by its place.
+    Part = b'P' as isize,
     /// The record reader, then cutting radius and preview.
     Reader = b'R' as isize,
     /// Cutting radius, preview and record writer.
@@ -71,119 +69,14 @@ pub fn list_checksum(list: &[i16]) -> u64 {
     checksum(list.iter().flat_map(signed))
 }
 
-// ---- the sets
-
-/// The cases that the repository keeps.
-pub fn stored() -> Vec<Vector> {
-    let texts = letter_texts().into_iter().chain(edge_texts());
-    let lists = circles_in_every_order().into_iter().chain(stored_lists()).map(|points| describe(&points));
-    let mut vectors: Vec<Vector> = texts.chain(lists).map(from_description).collect();
-    vectors.extend([vec![1; 8_194], vec![1; 8_193], vec![]].into_iter().map(engine));
-    vectors.extend(edge_sheets());
-    vectors.extend(damaged(&mut Random::new(1), 500));
-    vectors
-}
-
-/// `count` cases for each call, by a seed: for runs beyond the stored cases.
-pub fn drawn(seed: u64, count: usize) -> Vec<Vector> {
-    let mut random = Random::new(seed);
-    let mut vectors = damaged(&mut random, count);
-    for _ in 0..count {
-        let longest = random.pick(&[4, 12, 40, 300]);
-        let n = 1 + random.below(longest);
-        vectors.push(from_description(describe(&lists::draw(random.pick(&KINDS), n, &mut random))));
-    }
-    vectors
-}
-
-/// `count` cases for each call from descriptions, sheets and records, many of them damaged.
-fn damaged(random: &mut Random, count: usize) -> Vec<Vector> {
-    let mut vectors = Vec::new();
-    for _ in 0..count {
-        vectors.push(from_description(damage::description(random)));
-        vectors.push(engine(damage::point_list(random)));
-        vectors.push(loader(damage::description(random)));
-        vectors.push(open_sheet(&damage::sheet(random)));
-        vectors.push(reader(damage::record(random)));
-        vectors.push(writer(&damage::writer(random)));
-    }
-    vectors
-}
-
-fn letter_texts() -> Vec<Vec<u8>> {
-    letters::LETTERS.iter().map(|letter| describe(&letters::points(letter.list))).collect()
-}
-
-/// The edge cases of document 01, and those about the length of a list or description.
-fn edge_texts() -> Vec<Vec<u8>> {
-    let short = [
-        "1000 0",
-        "1001 0",
-        "0 -250",
-        "0 -251",
-        "0 750",
-        "0 751",
-        "0 0\n-1 0",
-        "12345 0",
-        "01000 0",
-        "\n",
-        "",
-        "   ",
-        "-0 -0",
-        "5-3",
-        "1 2\r\n",
-        "1\t2",
-        "0 -250\n1000 -247\n1 750",
-    ];
-    let most = b"1 2\n".repeat(4_096);
-    let long = [&b"3 4"[..], b"3 4 5", b"3 751", b" \n\n"].map(|more| [&most, more].concat());
-    let padded = [65_535, 65_536].map(|length| [&b"1 2\n3 4"[..], &vec![b' '; length - 7]].concat());
-    let texts = short.iter().map(|text| text.as_bytes().to_vec());
-    texts.chain([most.clone()]).chain(long).chain(padded).collect()
-}
-
-/// Points on a common circle in every order: letter D, and five of the lattice points of a circle of radius 5.
-fn circles_in_every_order() -> Vec<Vec<Point>> {
-    let square = [(0, 0), (10, 0), (0, 10), (10, 10)];
-    let circle = [(10, 5), (8, 9), (5, 10), (1, 8), (2, 1)];
-    let lists = [&square[..], &circle[..]].map(letters::points);
-    lists.iter().flat_map(|points| orders(points)).collect()
-}
-
-/// Every order of the points.
-fn orders(points: &[Point]) -> Vec<Vec<Point>> {
-    if points.is_empty() {
-        return vec![vec![]];
-    }
-    let with_first = |first: usize| {
-        let rest = [&points[..first], &points[first + 1..]].concat();
-        orders(&rest).into_iter().map(move |order| [&points[first..=first], &order].concat())
-    };
-    (0..points.len()).flat_map(with_first).collect()
-}
-
-/// Short lists of every kind, some lists of a few hundred points, three of 4,096, and lists that cost many tests.
-fn stored_lists() -> Vec<Vec<Point>> {
-    let mut stored: Vec<Vec<Point>> = Vec::new();
-    stored.extend(lists::mixed(1_600, 14).map(|case| case.points));
-    stored.extend(lists::mixed(300, 80).map(|case| case.points));
-    stored.extend(lists::mixed(20, 400).map(|case| case.points));
-    for kind in [Kind::Uniform, Kind::Outline, Kind::ByDistance] {
-        stored.push(lists::draw(kind, 4_096, &mut Random::new(3)));
-    }
-    stored.extend(worst::short_lists());
-    stored
-}
-
-/// Sheets of zeros, from none to one byte too many.
-fn edge_sheets() -> impl Iterator<Item = Vector> {
-    [0, 1, 2, 3, 65_536].into_iter().map(|length| open_sheet(&SheetCase { k: 0, bytes: vec![0; length] }))
+pub fn byte_checksum(bytes: &[u8]) -> u64 {
+    checksum(bytes.iter().map(|&byte| byte.into()))
 }
 
 // ---- a case for each call
 
 /// A description: the listing, and the checksum of the list as the engine leaves it.
-fn from_description(text: Vec<u8>) -> Vector {
+pub fn from_description(text: Vec<u8>) -> Vector {
     let printed = match listing::solved(&text) {
         Ok((answer, left)) => format!("{}left {}\n", listing::lines(&answer), list_checksum(&flat(&left))),
         Err(refusal) => listing::refused(refusal),
@@ -192,7 +85,7 @@ fn from_description(text: Vec<u8>) -> Vector {
 }
 
 /// A point list, two bytes a number, high byte first: the same, with the checksum also where the list is refused.
-fn engine(mut list: Vec<i16>) -> Vector {
+pub fn engine(mut list: Vec<i16>) -> Vector {
     let bytes = list.iter().flat_map(|number| number.to_be_bytes()).collect();
     let printed = match engine::solve(&mut list) {
         Ok(answer) => listing::lines(&answer),
@@ -201,29 +94,45 @@ fn engine(mut list: Vec<i16>) -> Vector {
     Vector { call: Call::Engine, bytes, printed: printed + &format!("left {}\n", list_checksum(&list)) }
 }
 
-/// The lent list holds 12,321 everywhere before the call; its checksum after it is printed.
-fn loader(text: Vec<u8>) -> Vector {
-    let mut list = [12_321; LIST_LENGTH];
-    let printed = match description::load(&text, &mut list) {
+/// The lent list's length in two bytes, high byte first, then the description. The list holds 12,321 everywhere before the call; its
+/// checksum after it is printed.
+pub fn loader(case: &LoaderCase) -> Vector {
+    let room = u16::try_from(case.room).expect("a length has 16 bits").to_be_bytes();
+    let mut list = vec![12_321; case.room];
+    let printed = match description::load(&case.text, &mut list) {
         Ok(count) => format!("points {count}\n"),
         Err(refusal) => listing::refused(refusal),
     };
-    Vector { call: Call::Loader, bytes: text, printed: printed + &format!("list {}\n", list_checksum(&list)) }
+    let printed = printed + &format!("list {}\n", list_checksum(&list));
+    Vector { call: Call::Loader, bytes: [&room[..], &case.text].concat(), printed }
 }
 
 /// k in two bytes, high byte first, then the sheet.
-fn open_sheet(case: &SheetCase) -> Vector {
+pub fn open_sheet(case: &SheetCase) -> Vector {
     let printed = match sheet::glyph(&case.bytes, case.k.into()) {
-        Ok(part) => {
-            let bytes = checksum(case.bytes[part.clone()].iter().map(|&byte| byte.into()));
-            format!("part {} {} {bytes}\n", part.start, part.len())
+        Ok(place) => {
+            let (start, length) = (place.start, place.len());
+            format!("part {start} {length}\n") + &part_printed(&case.bytes, start, length)
         }
         Err(refusal) => listing::refused(refusal),
     };
     Vector { call: Call::Sheet, bytes: [&case.k.to_be_bytes()[..], &case.bytes].concat(), printed }
 }
 
-fn reader(bytes: Vec<u8>) -> Vector {
+/// Start and length in eight bytes each, high byte first, then the sheet.
+pub fn part(case: &PartCase) -> Vector {
+    let place = [case.start, case.length].map(|number| (number as u64).to_be_bytes()).concat();
+    let printed = part_printed(&case.bytes, case.start, case.length);
+    Vector { call: Call::Part, bytes: [&place[..], &case.bytes].concat(), printed }
+}
+
+/// How many bytes, and their checksum.
+fn part_printed(bytes: &[u8], start: usize, length: usize) -> String {
+    let part = sheet::part(bytes, start, length);
+    format!("bytes {} {}\n", part.len(), byte_checksum(part))
+}
+
+pub fn reader(bytes: Vec<u8>) -> Vector {
     let printed = match record::read(&bytes) {
         Ok((disk, support)) => {
             let Disk { x, y, e, s } = disk;
@@ -253,7 +162,7 @@ fn figures_printed(disk: &Disk, support: &[Point]) -> String {
 
 /// The buffer's length and the number of points, a byte each, then a record's bytes, its points with repeats of the last. The buffer
 /// holds 238 everywhere before the call; its checksum after it is printed.
-fn writer(case: &WriterCase) -> Vector {
+pub fn writer(case: &WriterCase) -> Vector {
     let count = case.support.len() as u8;
     let bytes = [vec![case.room, count], record::bytes_of(&case.disk, &case.support)].concat();
     let mut buffer = vec![238; case.room.into()];
@@ -261,37 +170,14 @@ fn writer(case: &WriterCase) -> Vector {
         Ok(()) => "written\n".to_string(),
         Err(refusal) => listing::refused(refusal),
     };
-    let left = checksum(buffer.iter().map(|&byte| byte.into()));
-    let printed = figures_printed(&case.disk, &case.support) + &written + &format!("buffer {left}\n");
+    let left = format!("buffer {}\n", byte_checksum(&buffer));
+    let printed = figures_printed(&case.disk, &case.support) + &written + &left;
     Vector { call: Call::Writer, bytes, printed }
 }
 
 #[cfg(test)]
 mod tests {
     use super::*;
-    use crate::refusal::Refusal;
-    use std::path::Path;
-
-    #[test]
-    fn the_files_are_those_that_the_command_writes() {
-        let folder = Path::new(env!("CARGO_MANIFEST_DIR")).join("../../crates/vectors");
-        let read = |file: &str| std::fs::read(folder.join(file)).unwrap();
-        let vectors = stored();
-        assert!(read("stdin") == input(&vectors), "stdin");
-        assert!(read("stdout") == output(&vectors).as_bytes(), "stdout");
-    }
-
-    #[test]
-    fn every_answer_and_every_refusal_is_among_the_cases() {
-        let vectors = stored();
-        let lists = vectors.iter().filter(|v| v.call == Call::Listing && v.printed.starts_with("disk")).count();
-        assert!(lists >= 2_000);
-        use Refusal::*;
-        for refusal in [TooLong, BadLine, OutsideBox, TooMany, NoPoint, BadSheet, BadRecord, NoRoom, OddLength, NoGlyph] {
-            let line = listing::refused(refusal);
-            assert!(vectors.iter().any(|v| v.printed.contains(&line)), "{refusal:?}");
-        }
-    }
 
     #[test]
     fn the_checksum_depends_on_the_order() {

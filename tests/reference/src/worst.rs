@@ -1,30 +1,14 @@
 //! Lists that cost many tests.
 //!
-//! Points that come from the inside out are mostly outside when they are tested: [`growing`] goes round while the radius grows,
-//! [`by_distance`] sorts drawn points by their distance from the middle of the em box. At 4,096 points the latter is the worst kind
-//! found, with some 8.2 million tests. For short lists [`climb`] comes nearer to the bound.
+//! Points that come from the inside out are mostly outside when they are tested: [`Kind::Growing`] goes round while the radius
+//! grows, [`Kind::ByDistance`] sorts drawn points by their distance from the middle of the em box. At 4,096 points the latter is the
+//! worst kind found, with some 8.2 million tests. For short lists [`climb`] comes nearer to the bound.
 
 use crate::geometry::Point;
-use crate::lists::{self, around, Kind};
+use crate::limits::{FOOT, LEFT, RIGHT, TOP};
+use crate::lists::{draw, Kind};
 use crate::procedure;
 use crate::random::Random;
-
-/// Points round the middle with rising radius.
-pub fn growing(n: usize, random: &mut Random) -> Vec<Point> {
-    let turn = 1 + random.below(n);
-    let radius = |i: usize| 1 + (499 * i / n) as i64;
-    (0..n).map(|i| around(i * turn, n, radius(i))).collect()
-}
-
-/// Points anywhere in the em box, the nearest to its middle first.
-pub fn by_distance(n: usize, random: &mut Random) -> Vec<Point> {
-    let mut points = lists::draw(Kind::Uniform, n, random);
-    points.sort_by_key(|p| {
-        let (dx, dy) = (i32::from(p.x) - 500, i32::from(p.y) - 250);
-        dx * dx + dy * dy
-    });
-    points
-}
 
 pub fn tests_of(points: &[Point]) -> u64 {
     procedure::run(&mut points.to_vec()).tests
@@ -33,8 +17,8 @@ pub fn tests_of(points: &[Point]) -> u64 {
 /// A list of n points by its seed, changed `steps` times where the count does not fall.
 pub fn climb(n: usize, seed: u64, steps: usize) -> Vec<Point> {
     let mut random = Random::new(seed);
-    let start = if seed.is_multiple_of(2) { by_distance } else { growing };
-    let mut best = start(n, &mut random);
+    let start = if seed.is_multiple_of(2) { Kind::ByDistance } else { Kind::Growing };
+    let mut best = draw(start, n, &mut random);
     let mut most = tests_of(&best);
     for _ in 0..steps {
         let next = changed(&best, &mut random);
@@ -51,7 +35,7 @@ fn changed(points: &[Point], random: &mut Random) -> Vec<Point> {
     let mut next = points.to_vec();
     let (i, j) = (random.below(next.len()), random.below(next.len()));
     match random.below(4) {
-        0 => next[i] = Point::new(random.coordinate(0, 1000), random.coordinate(-250, 750)),
+        0 => next[i] = Point::new(random.coordinate(LEFT, RIGHT), random.coordinate(FOOT, TOP)),
         1 => next[i] = nudged(next[i], random),
         2 => next.swap(i, j),
         _ => {
@@ -64,8 +48,8 @@ fn changed(points: &[Point], random: &mut Random) -> Vec<Point> {
 
 fn nudged(p: Point, random: &mut Random) -> Point {
     let reach = random.pick(&[1, 5, 40]);
-    let x = (p.x + random.coordinate(-reach, reach)).clamp(0, 1000);
-    let y = (p.y + random.coordinate(-reach, reach)).clamp(-250, 750);
+    let x = (p.x + random.coordinate(-reach, reach)).clamp(LEFT, RIGHT);
+    let y = (p.y + random.coordinate(-reach, reach)).clamp(FOOT, TOP);
     Point::new(x, y)
 }
 

@@ -4,7 +4,8 @@
 //!
 //! PROGRAM is the built `crates/vectors` (`target/bin/vectors` of the repository). Each seed is a run of 1,000 cases for each call.
 
-use reference::vectors::{drawn, input, output, Vector};
+use reference::stored::drawn;
+use reference::vectors::{input, output, Vector};
 use std::io::{self, Read, Write};
 use std::process::{Command, Stdio};
 

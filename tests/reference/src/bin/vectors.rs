@@ -1,7 +1,8 @@
 //! Writes the stored cases, `stdin` and `stdout` of `crates/vectors`: `cargo run --offline --release --bin vectors`, in
 //! `tests/reference`. The files are the same on every run.
 
-use reference::vectors::{input, output, stored};
+use reference::stored::stored;
+use reference::vectors::{input, output};
 use std::io;
 use std::path::Path;
 

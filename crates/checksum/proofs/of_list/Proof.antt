@@ -1,9 +1,9 @@
--- `cases::list_checksum` is safe and ends: each number is read below the length. The measure is the number of numbers left.
+-- `checksum::of_list` is safe and ends: each number is read below the length. The measure is the number of numbers left.
 use borrow.Author.Needs.{needs}
 use Prim.Native.Nat.{_-_}
 use lib.ListN.{length}
-use Rattle.cases.proofs.list_checksum.Statement.{statement}
-use Rattle.cases.proofs.list_checksum.Tie as tie
+use Rattle.checksum.proofs.of_list.Statement.{statement}
+use Rattle.checksum.proofs.of_list.Tie as tie
 
 abbrev Inv-loop : tie.InvT-loop
 Inv-loop list sum₀ i₀ sum i = Unit {0}
@@ -35,8 +35,8 @@ loop-again c = search needs
 returns : tie.Need-returns Inv-loop μ-loop
 returns c = search needs
 
-pub list-checksum-spec : {M : Type 1} → statement M
-list-checksum-spec =
+pub of-list-spec : {M : Type 1} → statement M
+of-list-spec =
     tie.close
     (tie.spec
     Inv-loop

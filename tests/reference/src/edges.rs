@@ -1,0 +1,77 @@
+//! The edges of document 01 by hand: its words, an input that they settle, and what must come out, side by side.
+//!
+//! Each edge is a test of this implementation (below) and a stored case of the product ([`crate::stored`]). What must come out was
+//! worked out by no program.
+
+mod descriptions;
+mod records;
+mod sheets;
+
+pub use descriptions::descriptions;
+pub use records::{readings, writings};
+pub use sheets::{parts, sheets};
+
+/// The words of document 01 (where it leaves a point open, of docs/DECISIONS.md), what a call is given, and what it must give.
+pub struct Edge<Input, Output> {
+    pub says: &'static str,
+    pub given: Input,
+    pub gives: Output,
+}
+
+/// A value, or the number of a refusal.
+pub type Answer<Value> = Result<Value, u8>;
+
+#[cfg(test)]
+mod tests {
+    use super::*;
+    use crate::refusal::Refusal;
+    use crate::{description, engine::flat, figures, record, sheet};
+
+    #[test]
+    fn the_loader_keeps_to_them() {
+        for Edge { says, given, gives } in descriptions() {
+            let before = vec![77; given.room];
+            let mut list = before.clone();
+            let answer = description::load(&given.text, &mut list).map_err(Refusal::number);
+            assert_eq!(answer, gives.as_ref().map(Vec::len).map_err(|number| *number), "{says}");
+            let written = flat(&gives.unwrap_or_default());
+            assert_eq!(list, [&written, &before[written.len()..]].concat(), "{says}");
+        }
+    }
+
+    #[test]
+    fn the_sheet_opener_keeps_to_them() {
+        for Edge { says, given, gives } in sheets() {
+            let answer = sheet::glyph(&given.bytes, given.k.into()).map_err(Refusal::number);
+            assert_eq!(answer.map(|part| (part.start, given.bytes[part].to_vec())), gives, "{says}");
+        }
+    }
+
+    #[test]
+    fn the_parts_of_sheets_keep_to_them() {
+        for Edge { says, given, gives } in parts() {
+            assert_eq!(sheet::part(&given.bytes, given.start, given.length), gives, "{says}");
+        }
+    }
+
+    #[test]
+    fn writer_and_cutting_radius_keep_to_them() {
+        for Edge { says, given, gives } in writings() {
+            let before = vec![0xAA; given.room.into()];
+            let mut buffer = before.clone();
+            let answer = record::write(&given.disk, &given.support, &mut buffer).map_err(Refusal::number);
+            assert_eq!(answer, gives.written, "{says}");
+            let filled = if answer.is_ok() { record::bytes_of(&given.disk, &given.support) } else { vec![] };
+            assert_eq!(buffer, [&filled, &before[filled.len()..]].concat(), "{says}");
+            let radius = figures::whole_radius(&given.disk, &given.support).map_err(Refusal::number);
+            assert_eq!(radius, gives.radius, "{says}");
+        }
+    }
+
+    #[test]
+    fn the_record_reader_keeps_to_them() {
+        for Edge { says, given, gives } in readings() {
+            assert_eq!(record::read(&given).map_err(Refusal::number), gives, "{says}");
+        }
+    }
+}

@@ -1,0 +1,142 @@
+//! Descriptions, and the length of the list that the loader is lent.
+
+use super::{Answer, Edge};
+use crate::geometry::Point;
+use crate::inputs::LoaderCase;
+use crate::letters::points;
+
+/// The points of a description, or the number of the refusal.
+type Loading = Edge<LoaderCase, Answer<Vec<Point>>>;
+
+type Row = (&'static str, Answer<&'static [(i16, i16)]>);
+
+/// More numbers than a list has to have.
+const AMPLE: usize = 8_200;
+
+pub fn descriptions() -> Vec<Loading> {
+    let short =
+        TEXTS.iter().flat_map(|(says, rows)| rows.iter().map(|(text, gives)| loading(says, AMPLE, text, gives.map(points))));
+    short.chain(most_points()).chain(longest()).chain(rooms()).collect()
+}
+
+fn loading(says: &'static str, room: usize, text: impl AsRef<[u8]>, gives: Answer<Vec<Point>>) -> Loading {
+    Edge { says, given: LoaderCase { room, text: text.as_ref().to_vec() }, gives }
+}
+
+#[rustfmt::skip]
+const TEXTS: [(&str, &[Row]); 7] = [
+    ("x from 0 to 1000, y from −250 to 750 (the em box). 3: a corner outside the em box", &[
+        ("1000 0\n", Ok(&[(1000, 0)])),
+        ("1000 0", Ok(&[(1000, 0)])),
+        ("1001 0\n", Err(3)),
+        ("1001 0", Err(3)),
+        ("0 0\n", Ok(&[(0, 0)])),
+        ("-1 0\n", Err(3)),
+        ("0 0\n-1 0", Err(3)),
+        ("0 -250\n", Ok(&[(0, -250)])),
+        ("0 -250", Ok(&[(0, -250)])),
+        ("0 -251\n", Err(3)),
+        ("0 -251", Err(3)),
+        ("0 750\n", Ok(&[(0, 750)])),
+        ("0 750", Ok(&[(0, 750)])),
+        ("0 751\n", Err(3)),
+        ("0 751", Err(3)),
+    ]),
+    ("A number is an optional minus and 1 to 4 decimal digits; leading zeros and −0 are allowed", &[
+        ("0012 0003\n", Ok(&[(12, 3)])),
+        ("-0 -0000\n", Ok(&[(0, 0)])),
+        ("-0 -0", Ok(&[(0, 0)])),
+        ("5 -0250\n", Ok(&[(5, -250)])),
+        ("12345 0\n", Err(2)),
+        ("12345 0", Err(2)),
+        ("01000 0\n", Err(2)),
+        ("01000 0", Err(2)),
+        ("0 -00250\n", Err(2)),
+        ("99999 0\n", Err(2)),
+        ("-\n", Err(2)),
+        ("- 1 2\n", Err(2)),
+        ("1 -\n", Err(2)),
+        ("--1 2\n", Err(2)),
+        ("+1 2\n", Err(2)),
+        ("5-3\n", Err(2)),
+        ("5-3", Err(2)),
+        ("1a 2\n", Err(2)),
+        ("1.5 2,5\n", Err(2)),
+    ]),
+    ("Lines end with byte 10 or at the end of the bytes", &[
+        ("1 2\n3 4", Ok(&[(1, 2), (3, 4)])),
+        ("1 2\n3 4\n", Ok(&[(1, 2), (3, 4)])),
+        ("1 2\r\n", Err(2)),
+    ]),
+    ("A line of no bytes or only spaces (32) is blank and allowed anywhere. Any other line is: spaces or none, x, one or more spaces, y, spaces or none", &[
+        ("   1   2   \n3 4", Ok(&[(1, 2), (3, 4)])),
+        ("\n  \n\n1 2\n \n\n3 4\n\n   ", Ok(&[(1, 2), (3, 4)])),
+        ("1\n2\n", Err(2)),
+        ("1 2 3\n", Err(2)),
+        ("1\t2\n", Err(2)),
+        ("1\t2", Err(2)),
+        ("\t\n", Err(2)),
+        ("1 2\0\n", Err(2)),
+    ]),
+    ("in file order, repeats kept, they are its list", &[
+        ("7 7\n7 7\n7 7\n", Ok(&[(7, 7), (7, 7), (7, 7)])),
+    ]),
+    ("5: no corner", &[
+        ("", Err(5)),
+        ("\n", Err(5)),
+        ("   ", Err(5)),
+        ("  \n\n   ", Err(5)),
+    ]),
+    ("the first faulty line decides, in it 2, then 3, then 4; at the end 5", &[
+        ("1001 x\n", Err(2)),
+        ("1001 0\nx\n", Err(3)),
+        ("x\n1001 0\n", Err(2)),
+        ("1 2\n3 4\nx\n", Err(2)),
+        ("\n\nx\n", Err(2)),
+    ]),
+];
+
+/// 4,096 points, then more, then spaces.
+fn most_points() -> impl Iterator<Item = Loading> {
+    let says = "4,096 corners pass, 4,097 give 4 .. in it 2, then 3, then 4";
+    let most = points(&[(0, 0); 4_096]);
+    let rows = [
+        ("", Ok(most.clone())),
+        ("\n  \n\n", Ok(most)),
+        ("0 0\n", Err(4)),
+        ("0 x\n", Err(2)),
+        ("1001 0\n", Err(3)),
+        ("0 0\nx\n", Err(4)),
+    ];
+    rows.into_iter().map(move |(more, gives)| loading(says, AMPLE, padded(&("0 0\n".repeat(4_096) + more), 16_448), gives))
+}
+
+/// At most 65,535 bytes, and one more.
+fn longest() -> impl Iterator<Item = Loading> {
+    let says = "1: description or sheet over 65,535 bytes. Loader: 8, 1, then by line";
+    let rows = [
+        ("1 2\n", 65_535, AMPLE, Ok(points(&[(1, 2)]))),
+        ("", 65_535, AMPLE, Err(5)),
+        ("1 2\n", 65_536, AMPLE, Err(1)),
+        ("1 2\n", 65_536, 8_191, Err(8)),
+        ("1 2\n", 65_536, 8_192, Err(1)),
+        ("x\n", 65_536, AMPLE, Err(1)),
+        ("x\n", 65_536, 8_191, Err(8)),
+        ("x\n", 65_536, 8_192, Err(1)),
+    ];
+    rows.into_iter().map(move |(start, length, room, gives)| loading(says, room, padded(start, length), gives))
+}
+
+fn rooms() -> impl Iterator<Item = Loading> {
+    let says = "8: a loader's list under 8,192 numbers";
+    let rows =
+        [("1 2\n", 8_191, Err(8)), ("1 2\n", 8_192, Ok(points(&[(1, 2)]))), ("x\n", 8_191, Err(8)), ("x\n", 8_192, Err(2))];
+    rows.into_iter().map(move |(text, room, gives)| loading(says, room, text, gives))
+}
+
+/// The text, and spaces up to the length.
+fn padded(text: &str, length: usize) -> Vec<u8> {
+    let mut bytes = text.as_bytes().to_vec();
+    bytes.resize(length, b' ');
+    bytes
+}

@@ -1,0 +1,134 @@
+//! The cases that the repository keeps, and further ones by their seed.
+
+use crate::damage;
+use crate::description::describe;
+use crate::edges;
+use crate::geometry::Point;
+use crate::letters;
+use crate::limits::{LIST_LENGTH, MOST_POINTS};
+use crate::lists::{self, Kind, KINDS};
+use crate::random::Random;
+use crate::vectors::{engine, from_description, loader, open_sheet, part, reader, writer, Vector};
+use crate::worst;
+
+/// The cases that the repository keeps.
+pub fn stored() -> Vec<Vector> {
+    let texts = letter_texts().into_iter().chain(edge_texts());
+    let lists = circles_in_every_order().into_iter().chain(stored_lists()).map(|points| describe(&points));
+    let mut vectors: Vec<Vector> = texts.chain(lists).map(from_description).collect();
+    vectors.extend([vec![1; 8_194], vec![1; 8_193], vec![]].into_iter().map(engine));
+    vectors.extend(edges());
+    vectors.extend(damaged(&mut Random::new(1), 500));
+    vectors
+}
+
+/// `count` cases for each call, by a seed: for runs beyond the stored cases.
+pub fn drawn(seed: u64, count: usize) -> Vec<Vector> {
+    let mut random = Random::new(seed);
+    let mut vectors = damaged(&mut random, count);
+    for _ in 0..count {
+        let longest = random.pick(&[4, 12, 40, 300]);
+        let n = 1 + random.below(longest);
+        vectors.push(from_description(describe(&lists::draw(random.pick(&KINDS), n, &mut random))));
+    }
+    vectors
+}
+
+/// `count` cases for each call from descriptions, sheets and records, many of them damaged.
+fn damaged(random: &mut Random, count: usize) -> Vec<Vector> {
+    let mut vectors = Vec::new();
+    for _ in 0..count {
+        vectors.push(from_description(damage::description(random)));
+        vectors.push(engine(damage::point_list(random)));
+        vectors.push(loader(&damage::loader(random)));
+        vectors.push(open_sheet(&damage::sheet(random)));
+        vectors.push(part(&damage::part(random)));
+        vectors.push(reader(damage::record(random)));
+        vectors.push(writer(&damage::writer(random)));
+    }
+    vectors
+}
+
+fn letter_texts() -> Vec<Vec<u8>> {
+    letters::LETTERS.iter().map(|letter| describe(&letters::points(letter.list))).collect()
+}
+
+/// The descriptions at the edges of document 01, those for lists of other lengths left out, and a disk with a large E.
+fn edge_texts() -> impl Iterator<Item = Vec<u8>> {
+    let edges = edges::descriptions().into_iter().map(|edge| edge.given).filter(|given| given.room > LIST_LENGTH);
+    edges.map(|given| given.text).chain([b"0 -250\n1000 -247\n1 750".to_vec()])
+}
+
+/// The edges of document 01, each for its own call.
+fn edges() -> Vec<Vector> {
+    let mut vectors: Vec<Vector> = Vec::new();
+    vectors.extend(edges::descriptions().iter().map(|edge| loader(&edge.given)));
+    vectors.extend(edges::sheets().iter().map(|edge| open_sheet(&edge.given)));
+    vectors.extend(edges::parts().iter().map(|edge| part(&edge.given)));
+    vectors.extend(edges::readings().into_iter().map(|edge| reader(edge.given)));
+    vectors.extend(edges::writings().iter().map(|edge| writer(&edge.given)));
+    vectors
+}
+
+/// Points on a common circle in every order: letter D, and five of the lattice points of a circle of radius 5.
+fn circles_in_every_order() -> Vec<Vec<Point>> {
+    let square = [(0, 0), (10, 0), (0, 10), (10, 10)];
+    let circle = [(10, 5), (8, 9), (5, 10), (1, 8), (2, 1)];
+    let lists = [&square[..], &circle[..]].map(letters::points);
+    lists.iter().flat_map(|points| orders(points)).collect()
+}
+
+/// Every order of the points.
+fn orders(points: &[Point]) -> Vec<Vec<Point>> {
+    if points.is_empty() {
+        return vec![vec![]];
+    }
+    let with_first = |first: usize| {
+        let rest = [&points[..first], &points[first + 1..]].concat();
+        orders(&rest).into_iter().map(move |order| [&points[first..=first], &order].concat())
+    };
+    (0..points.len()).flat_map(with_first).collect()
+}
+
+/// Short lists of every kind, some lists of a few hundred points, three of 4,096, and lists that cost many tests.
+fn stored_lists() -> Vec<Vec<Point>> {
+    let mut stored: Vec<Vec<Point>> = Vec::new();
+    stored.extend(lists::mixed(1_600, 14).map(|case| case.points));
+    stored.extend(lists::mixed(300, 80).map(|case| case.points));
+    stored.extend(lists::mixed(20, 400).map(|case| case.points));
+    for kind in [Kind::Uniform, Kind::Outline, Kind::ByDistance] {
+        stored.push(lists::draw(kind, MOST_POINTS, &mut Random::new(3)));
+    }
+    stored.extend(worst::short_lists());
+    stored
+}
+
+#[cfg(test)]
+mod tests {
+    use super::*;
+    use crate::listing;
+    use crate::refusal::Refusal;
+    use crate::vectors::{input, output, Call};
+    use std::path::Path;
+
+    #[test]
+    fn the_files_are_those_that_the_command_writes() {
+        let folder = Path::new(env!("CARGO_MANIFEST_DIR")).join("../../crates/vectors");
+        let read = |file: &str| std::fs::read(folder.join(file)).unwrap();
+        let vectors = stored();
+        assert!(read("stdin") == input(&vectors), "stdin");
+        assert!(read("stdout") == output(&vectors).as_bytes(), "stdout");
+    }
+
+    #[test]
+    fn every_answer_and_every_refusal_is_among_the_cases() {
+        let vectors = stored();
+        let lists = vectors.iter().filter(|v| v.call == Call::Listing && v.printed.starts_with("disk")).count();
+        assert!(lists >= 2_000);
+        use Refusal::*;
+        for refusal in [TooLong, BadLine, OutsideBox, TooMany, NoPoint, BadSheet, BadRecord, NoRoom, OddLength, NoGlyph] {
+            let line = listing::refused(refusal);
+            assert!(vectors.iter().any(|v| v.printed.contains(&line)), "{refusal:?}");
+        }
+    }
+}
