@@ -3,7 +3,7 @@ use answers::Refusal;
 use geometry::Point;
 use lines::Scanned;
 ghost use mathlib.Core.Path.{_≡_};
-ghost use Prim.Native.Nat.{_+_, _*_, _<_, _≤_};
+ghost use Prim.Native.Nat.{_*_, _<_, _≤_};
 ghost use lib.ListN.{length, drop};
 ghost use lib.Seq.{paste};
 ghost use Rattle.description.specs.Description.{linesRead, named, byLine, loadOf, listAfter, outcome};
