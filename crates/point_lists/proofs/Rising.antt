@@ -4,7 +4,7 @@
 --   insert-in, insert-new, insert-old         : the points of `insert p Q` are p and those of Q
 --   insert-rises, insert-length               : it rises where Q does, and has at most one point more
 --   sorted-rises, sorted-same, sorted-length  : `sorted P` rises, has the points of P, and is no longer
---   rises-test, test-rises                    : the test `rising` holds where and only where the list rises
+--   rising-test                               : the test `rising` holds where and only where the list rises
 use mathlib.Core.Path.{_≡_, refl, sym, subst}
 use mathlib.Core.Logic.{_⊎_, inl, inr}
 use mathlib.Core.Bool.{true, false}
@@ -137,13 +137,13 @@ sorted-length (p ∷ l) = omega (arith, insert-length p (sorted l), sorted-lengt
 
 -- ---- the test
 
-pub rises-test : (S : List Point) → Rising S → rising S ≡ true
+rises-test : (S : List Point) → Rising S → rising S ≡ true
 unfolding rising
 rises-test [] r = refl
 rises-test (p ∷ []) r = refl
 rises-test (p ∷ q ∷ S) r = both (test-true (before p q) (r .0 q (List·Memᴰ·head refl))) (rises-test (q ∷ S) (r .1))
 
-pub test-rises : (S : List Point) → rising S ≡ true → Rising S
+test-rises : (S : List Point) → rising S ≡ true → Rising S
 unfolding rising
 test-rises [] h = tt
 test-rises (p ∷ []) h = (none-of (λ q. T (before p q)), tt)
@@ -154,3 +154,6 @@ test-rises (p ∷ q ∷ S) h = go (test-rises (q ∷ S) (rest (before p q) (risi
 
     go : Rising (q ∷ S) → Rising (p ∷ q ∷ S)
     go r = (also (λ x. T (before p x)) next (λ x i. before-trans p q x next (r .0 x i)), r)
+
+pub rising-test : (S : List Point) → (Rising S → rising S ≡ true) × (rising S ≡ true → Rising S)
+rising-test S = (rises-test S, test-rises S)

@@ -2,7 +2,7 @@
 --
 --   point-path       : points with the same coordinates are equal
 --   none-of, also    : a fact of each member of a list, put together
---   same-refl, same-sym, same-trans : naming the same set is an equivalence
+--   same-refl, same-sym : a list names the set that it names, and so do two lists in either order
 use mathlib.Core.Path.{_≡_, sym, subst}
 use mathlib.Core.Logic.{_⊎_, inl, inr}
 use mathlib.Core.List.{List, [], _∷_, List·Memᴰ·cases-cons, List·Memᴰ·not-nil}
@@ -27,6 +27,3 @@ same-refl P = record { to = λ p m. m; from = λ p m. m }
 
 pub same-sym : {P Q : List Point} → Same P Q → Same Q P
 same-sym s = record { to = s .from; from = s .to }
-
-pub same-trans : {P Q S : List Point} → Same P Q → Same Q S → Same P S
-same-trans s t = record { to = λ p m. t .to p (s .to p m); from = λ p m. s .from p (t .from p m) }

@@ -1,3 +1,2 @@
--- A point put in its place in a rising list.
--- what inner contracts alone cite
+-- of inner contracts
 pub mod Place
