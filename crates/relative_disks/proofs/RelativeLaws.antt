@@ -25,7 +25,8 @@ use Rattle.disks.proofs.Lifted.{value}
 use Rattle.disks.proofs.Relative.{relative}
 use Rattle.disks.proofs.Tests.{outside-relative}
 use Rattle.relative_disks.specs.declared.RelativeDisk.{RelativeDisk}
-use Rattle.relative_disks.specs.Relative.{beyond, isOutside, nothing, bySign, circleAbout, largestCoordinate, Near, inLowestTerms, StandsFor, none, proper}
+use Rattle.relative_disks.specs.Relative.{beyond, isOutside, nothing, bySign, circleAbout, largestCoordinate, Near, inLowestTerms, StandsFor, none}
+use Rattle.relative_disks.specs.Relative.{proper}
 use Rattle.relative_disks.specs.Relative.{row, Keeps}
 
 -- ---- equal numbers
