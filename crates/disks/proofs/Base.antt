@@ -8,10 +8,10 @@
 use mathlib.Core.Path.{_≡_, refl, sym, _∙_, ap, ap₂}
 use mathlib.Core.Logic.{_≢_}
 use mathlib.Core.List.{[], _∷_, List·Memᴰ·head, List·Memᴰ·tail}
-use lib.IntN.{ℤ, pos, negℤ, _+ℤ_, _-ℤ_, _*ℤ_}
+use lib.IntN.{ℤ, pos, negℤ, _+ℤ_, _*ℤ_}
 use lib.Signed.{_≤ℤ_, _<ℤ_}
 use Rattle.integers.proofs.Ring.{ring, poly, linear, eqn, _&_}
-use Rattle.integers.proofs.Order.{≤-of-eq, ≤-of-<, positive, nonneg-by, le, eq, nn, _⊞_, _⊠_, <-≤-clash, ≡-cancel, lt}
+use Rattle.integers.proofs.Order.{≤-of-eq, ≤-of-<, positive, nonneg-by, le, eq, nn, _⊞_, _⊠_, <-≤-clash, ≡-cancel}
 use Rattle.geometry.specs.declared.Point.{Point}
 use Rattle.point_lists.proofs.Sets.{none-of, also}
 use Rattle.disks.proofs.Lifted.{Lifted, value, gap}
@@ -90,9 +90,6 @@ multiple-gap : {F G : Lifted} → Multiple F G → F .e *ℤ gap F G ≡ F .e *�
 multiple-gap {F} {G} m = linear (F .e ∷ F .cx ∷ F .cy ∷ F .k ∷ G .e ∷ G .cx ∷ G .cy ∷ G .k ∷ [])
     (eqn (F .e *ℤ (pos 2 *ℤ F .cx)) (m .same-x) & eqn (F .e *ℤ (pos 2 *ℤ F .cy)) (m .same-y) & eqn (negℤ (F .e *ℤ F .e)) (m .same-k))
     (search poly depth 30) tt
-
-pub difference-positive : (a b : ℤ) → a <ℤ b → pos 0 <ℤ (b -ℤ a)
-difference-positive a b h = positive (a ∷ b ∷ []) (lt h) (search poly depth 30) tt
 
 pub positive-not-zero : {a : ℤ} → pos 0 <ℤ a → a ≢ pos 0
 positive-not-zero h e = <-≤-clash h (≤-of-eq e)

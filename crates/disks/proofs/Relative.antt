@@ -1,7 +1,6 @@
 -- A disk relative to a point q on its boundary: centre q + g/E.
 --
 --   relative q e gx gy   == that disk, lifted
---   relative-value       : p is outside where and only where |d|²·E > 2(d·g), d = p − q
 --   relative-radius      : S = |g|²
 --   point-relative, pair-relative : the disks of one and two points are of this form (and `vanishing` by its definition)
 --   turned-relative      : so is such a disk turned round
@@ -11,7 +10,7 @@ use mathlib.Core.List.{[], _∷_}
 use lib.IntN.{ℤ, pos, negℤ, _+ℤ_, _-ℤ_, _*ℤ_}
 use Rattle.integers.proofs.Ring.{ring, poly}
 use Rattle.geometry.specs.declared.Point.{Point}
-use Rattle.disks.proofs.Lifted.{Lifted, value, squaredRadius}
+use Rattle.disks.proofs.Lifted.{Lifted, squaredRadius}
 use Rattle.disks.proofs.Base.{pointForm, pairForm}
 use Rattle.disks.proofs.Triple.{turned}
 
@@ -22,10 +21,6 @@ relative q e gx gy = record {
   cy = q .y *ℤ e +ℤ gy;
   k = e *ℤ (q .x *ℤ q .x +ℤ q .y *ℤ q .y) +ℤ pos 2 *ℤ (gx *ℤ q .x +ℤ gy *ℤ q .y);
 }
-
-pub relative-value : (q : Point) (e gx gy : ℤ) (p : Point) → value (relative q e gx gy) p
-    ≡ ((p .x -ℤ q .x) *ℤ (p .x -ℤ q .x) +ℤ (p .y -ℤ q .y) *ℤ (p .y -ℤ q .y)) *ℤ e -ℤ pos 2 *ℤ ((p .x -ℤ q .x) *ℤ gx +ℤ (p .y -ℤ q .y) *ℤ gy)
-relative-value q e gx gy p = ring (q .x ∷ q .y ∷ e ∷ gx ∷ gy ∷ p .x ∷ p .y ∷ []) (search poly depth 30) tt
 
 pub relative-radius : (q : Point) (e gx gy : ℤ) → squaredRadius (relative q e gx gy) ≡ gx *ℤ gx +ℤ gy *ℤ gy
 relative-radius q e gx gy = ring (q .x ∷ q .y ∷ e ∷ gx ∷ gy ∷ []) (search poly depth 30) tt

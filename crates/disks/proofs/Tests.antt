@@ -5,7 +5,7 @@
 --   outside-written     : a disk in lowest terms has a point outside where the lifted one has
 --   relativeDisk q e gx gy == the disk with q on its boundary and centre q + g/e, in lowest terms
 --   relative-lowered    : it is that of the lifted disk
---   relative-written    : E is e, X and Y are divided by one number, S by its square
+--   relative-written    : its X, Y and E are those of the lifted disk, divided by one number, and S by the square of that
 --   outside-relative    : a point p is outside it where |d|²·e > 2(d·g), d = p − q
 --   row-weight, row-holds : with E = 0, as the text has it for three points in a row, every point is held
 use mathlib.Core.Path.{_≡_, refl, sym, _∙_, ap, ap₂}

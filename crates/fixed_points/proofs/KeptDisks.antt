@@ -27,7 +27,8 @@ use Rattle.disks.proofs.Bridge.{point-lowered, diameter-lowered, circle-lowered
 use Rattle.disks.proofs.BoxLimits.{turned-weight}
 use Rattle.disks.proofs.Answer.{side, em-square, in-square}
 use Rattle.relative_disks.proofs.RelativeLaws.{near-box}
-use Rattle.relative_disks.specs.Relative.{nothing, pointAbout, diameterAbout, bySign, circleAbout, coordinate, arm, Near, Small, StandsFor, none, proper, row, Keeps}
+use Rattle.relative_disks.specs.Relative.{nothing, pointAbout, diameterAbout, bySign, circleAbout, largestCoordinate, largestOffset, Near, Small}
+use Rattle.relative_disks.specs.Relative.{StandsFor, none, proper, row, Keeps}
 
 lit-within : {B : ℕ} {z : ℤ} → T (leb (natAbs z) B) → Within B z
 lit-within t = record { within = leb→le _ _ t }
@@ -79,7 +80,8 @@ keeps-diameter a b h k = record {
 neg-positive : (e : ℤ) → e <ℤ pos 0 → pos 0 <ℤ negℤ e
 neg-positive e h = positive (e ∷ []) (lt h) (search poly depth 30) tt
 
-small-by : (t n : Bool) (e qx qy gx gy : ℤ) → Within (em .scale) e → Within coordinate qx → Within coordinate qy → Within arm gx → Within arm gy
+small-by : (t n : Bool) (e qx qy gx gy : ℤ) → Within (em .scale) e → Within largestCoordinate qx → Within largestCoordinate qy
+    → Within largestOffset gx → Within largestOffset gy
     → Small (bySign t n e qx qy gx gy)
 small-by true n e qx qy gx gy a b c d f = record { e-small = a; qx-small = b; qy-small = c; gx-small = d; gy-small = f }
 small-by false true e qx qy gx gy a b c d f = record {

@@ -1,1 +1,2 @@
+-- cited by inner contracts alone
 pub mod Boundary

@@ -9,6 +9,7 @@ use borrow.Author.Tests.{le-leb}
 use lib.Dec.{T}
 use lib.IntN.{ℤ}
 use lib.ListN.{length}
+use Rattle.point_lists.proofs.Rising.{rising-test}
 use Rattle.answers.specs.Outcome.{given}
 use Rattle.integers.proofs.Tests.{test-true, both}
 use Rattle.geometry.specs.declared.Point.{Point}
@@ -29,15 +30,9 @@ use Rattle.engine.proofs.Accepted.{accepted-list, has-point}
 use Rattle.validity.specs.Valid.{validPoints, valid}
 use Rattle.validity.proofs.ValidLaws.{disk-valid, points-valid, both-valid}
 
-rising-points : (S : List Point) → Rising S → rising S ≡ true
-unfolding rising
-rising-points [] r = refl
-rising-points (p ∷ []) r = refl
-rising-points (p ∷ q ∷ S) r = both (test-true (before p q) (r .0 q (List·Memᴰ·head refl))) (rising-points (q ∷ S) (r .1))
-
 support-valid : {P : List Point} (S : List Point) → IsSupport P S → ((p : Point) → In p P → T (inEmBox p)) → validPoints S ≡ true
 support-valid S s h =
-    points-valid em S (both (le-leb 1 (length S) (s .some)) (le-leb (length S) 3 (s .most))) (rising-points S (s .rises))
+    points-valid em S (both (le-leb 1 (length S) (s .some)) (le-leb (length S) 3 (s .most))) (rising-test S .0 (s .rises))
     (members-box S (λ p i. h p (s .members p i)))
 
 pub valid-answer : (P : List Point) → (P ≡ [] → ⊥) → allInEmBox P ≡ true → valid (diskOf P) (firstSupport P) ≡ true

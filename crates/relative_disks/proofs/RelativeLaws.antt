@@ -26,7 +26,8 @@ use Rattle.disks.proofs.Lifted.{value}
 use Rattle.disks.proofs.Relative.{relative}
 use Rattle.disks.proofs.Tests.{outside-relative}
 use Rattle.relative_disks.specs.declared.RelativeDisk.{RelativeDisk}
-use Rattle.relative_disks.specs.Relative.{beyond, isOutside, nothing, bySign, circleAbout, coordinate, Near, inLowestTerms, StandsFor, none, proper, row, Keeps}
+use Rattle.relative_disks.specs.Relative.{beyond, isOutside, nothing, bySign, circleAbout, largestCoordinate, Near, inLowestTerms, StandsFor, none}
+use Rattle.relative_disks.specs.Relative.{proper, row, Keeps}
 
 -- ---- equal numbers
 
@@ -50,8 +51,8 @@ module _ (qx qy ux uy vx vy : ℤ) where
 
 -- ---- near points
 
-pub wide-near : {z r : ℤ} → Within coordinate z → r ≡ toZ w16 (ofZ w16 z) → toZ w64 (ofZ w64 r) ≡ z
-wide-near {z} h e = ap (λ (x : ℤ). toZ w64 (ofZ w64 x)) (e ∙ leaf-back w16 z coordinate h tt) ∙ leaf-back w64 z coordinate h tt
+pub wide-near : {z r : ℤ} → Within largestCoordinate z → r ≡ toZ w16 (ofZ w16 z) → toZ w64 (ofZ w64 r) ≡ z
+wide-near {z} h e = ap (λ (x : ℤ). toZ w64 (ofZ w64 x)) (e ∙ leaf-back w16 z largestCoordinate h tt) ∙ leaf-back w64 z largestCoordinate h tt
 
 pub near-box : (p : Point) → inEmBox p ≡ true → Near p
 near-box p h = let size = point-size em p h in record { x-near = record { within = size .0 }; y-near = record { within = size .1 } }

@@ -4,7 +4,7 @@
 --   nothing                       == the empty disk: every point of the em box is outside it
 --   pointAbout, diameterAbout     == the disks of one point and of a diameter
 --   circleAbout q u v             == the circle through q, q + u and q + v; where the three are in a row, e = 0 and g = 0
---   coordinate, difference, arm   == how large a coordinate, a difference of two and a number of g can be
+--   largestCoordinate, largestDifference, largestOffset == how large a coordinate, a difference of two and a number of g can be
 --   Coordinates x y, Differences x y, Near p, Small d == numbers with which no step of the test overflows
 --   StandsFor d c                 == d is the text's cover c
 --   Keeps d c                     == and its numbers are small
@@ -53,32 +53,32 @@ circleAbout qx qy ux uy vx vy =
 
 -- ---- the size of the numbers: this is where the figures come from the em box
 
-abbrev pub coordinate : ℕ
-coordinate = largest em
+abbrev pub largestCoordinate : ℕ
+largestCoordinate = largest em
 
-abbrev pub difference : ℕ
-difference = 2 * coordinate
+abbrev pub largestDifference : ℕ
+largestDifference = 2 * largestCoordinate
 
 -- |u|²·v − |v|²·u for differences u and v
-abbrev pub arm : ℕ
-arm = 4 * (difference * difference * difference)
+abbrev pub largestOffset : ℕ
+largestOffset = 4 * (largestDifference * largestDifference * largestDifference)
 
 abbrev pub Coordinates : ℤ → ℤ → Type 0
-Coordinates x y = Within coordinate x × Within coordinate y
+Coordinates x y = Within largestCoordinate x × Within largestCoordinate y
 
 abbrev pub Differences : ℤ → ℤ → Type 0
-Differences x y = Within difference x × Within difference y
+Differences x y = Within largestDifference x × Within largestDifference y
 
 pub record Near (p : Point) : Type 0 where
-  pub x-near : Within coordinate (p .x)
-  pub y-near : Within coordinate (p .y)
+  pub x-near : Within largestCoordinate (p .x)
+  pub y-near : Within largestCoordinate (p .y)
 
 pub record SmallNumbers (e qx qy gx gy : ℤ) : Type 0 where
   pub e-small : Within (em .scale) e
-  pub qx-small : Within coordinate qx
-  pub qy-small : Within coordinate qy
-  pub gx-small : Within arm gx
-  pub gy-small : Within arm gy
+  pub qx-small : Within largestCoordinate qx
+  pub qy-small : Within largestCoordinate qy
+  pub gx-small : Within largestOffset gx
+  pub gy-small : Within largestOffset gy
 
 abbrev pub Small : RelativeDisk → Type 0
 Small d = SmallNumbers (d .e) (d .qx) (d .qy) (d .gx) (d .gy)

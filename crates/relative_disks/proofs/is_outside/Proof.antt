@@ -3,7 +3,7 @@ use borrow.Author.Needs.{needs}
 use mir.Syntax.{w64}
 use Rattle.integers.proofs.Bounds.{leaf-back}
 use Rattle.geometry.specs.EmBox.{em}
-use Rattle.relative_disks.specs.Relative.{coordinate, arm}
+use Rattle.relative_disks.specs.Relative.{largestCoordinate, largestOffset}
 use Rattle.relative_disks.proofs.RelativeLaws.{wide-near}
 use Rattle.relative_disks.proofs.is_outside.Statement.{statement}
 use Rattle.relative_disks.proofs.is_outside.Tie as tie
@@ -19,10 +19,10 @@ is-beyond-requires c κs =
     let (d, p) = c .before .before .before .before .before .before .before .before .before .pre in
     rw (
       leaf-back w64 _ (em .scale) (d .e-small) tt,
-      leaf-back w64 _ coordinate (d .qx-small) tt,
-      leaf-back w64 _ coordinate (d .qy-small) tt,
-      leaf-back w64 _ arm (d .gx-small) tt,
-      leaf-back w64 _ arm (d .gy-small) tt,
+      leaf-back w64 _ largestCoordinate (d .qx-small) tt,
+      leaf-back w64 _ largestCoordinate (d .qy-small) tt,
+      leaf-back w64 _ largestOffset (d .gx-small) tt,
+      leaf-back w64 _ largestOffset (d .gy-small) tt,
       wide-near (p .x-near) (c .before .before .before .before .before .before .before .wide .ensures),
       wide-near (p .y-near) (c .before .before .before .before .before .wide2 .ensures),
     )
@@ -33,10 +33,10 @@ returns c =
     let (d, p) = c .before .before .before .before .before .before .before .before .before .before .pre in
     rw (
       leaf-back w64 _ (em .scale) (d .e-small) tt,
-      leaf-back w64 _ coordinate (d .qx-small) tt,
-      leaf-back w64 _ coordinate (d .qy-small) tt,
-      leaf-back w64 _ arm (d .gx-small) tt,
-      leaf-back w64 _ arm (d .gy-small) tt,
+      leaf-back w64 _ largestCoordinate (d .qx-small) tt,
+      leaf-back w64 _ largestCoordinate (d .qy-small) tt,
+      leaf-back w64 _ largestOffset (d .gx-small) tt,
+      leaf-back w64 _ largestOffset (d .gy-small) tt,
       wide-near (p .x-near) (c .before .before .before .before .before .before .before .before .wide .ensures),
       wide-near (p .y-near) (c .before .before .before .before .before .before .wide2 .ensures),
     )
