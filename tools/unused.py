@@ -21,7 +21,7 @@ KEPT = {
     r"preview-exact": "the preview's conversions lose nothing, and each division is rounded once",
 }
 
-IMPORT = re.compile(r"\s*(pub |ghost )?use (.*?)(?:\.\{(.*)\}| as (\S+))?;?$")
+IMPORT = re.compile(r"\s*(pub |ghost )?use (.*?)(?:\.\{(.*)\}| as ([^\s;]+))?;?$")
 SECTION = re.compile(r"\s*(module|infixl?|infixr|(pub )?mod) ")
 SIGNATURE = re.compile(r"((?:pub |abbrev |unfoldable )*)(?:(?:record|data) (?=.*\bwhere$)|ruleset |(?=\S+ :(?: |$)))([^\s(){}.,;]+)")
 ITEM = re.compile(r'(pub )?(?:extern "C" )?(?:fn|struct|enum|const) (\w+)')

@@ -6,7 +6,6 @@
 --   get-high         : what is read of n bytes behind the digits of a has a above its n low bytes
 --   get-lt           : a field of n bytes is below 2^(8n)
 --   bytesOf-get      : the bytes of a field that was read are the field's own
---   put-get          : a field that is read and written again leaves the list as it was
 use mathlib.Core.Path.{_≡_, refl, sym, ap, ap₂, _∙_, subst}
 use mathlib.Core.List.{List, _∷_, _++_, append-assoc}
 use Prim.Native.Nat.{ℕ, zero, suc, _+_, _*_, _/_, _%_, _^_, _≤_, _<_}
@@ -14,9 +13,9 @@ use native.Mathlib.Nat.{suc-add, add-suc, le-add-right, div-one, one-mul, div-lt
 use native.Mathlib.Omega.{arith}
 use lib.Arith.{digits-div, digits-mod}
 use lib.Dec.{lit<}
-use lib.ListN.{length, getD, take, drop, length-append, take-append-drop}
+use lib.ListN.{length, getD, take, drop, length-append}
 use lib.Pow.{pow-pos, shr-shr}
-use lib.Seq.{sets-eq, take-add, take-append-seam, drop-at, drop-cons}
+use lib.Seq.{sets-eq, take-append-seam, drop-at, drop-cons}
 use Rattle.big_endian.specs.Fields.{digit, bytesOf, put, get}
 use Rattle.big_endian.proofs.FieldLaws.{round-trip}
 
@@ -80,10 +79,3 @@ module _ (xs : List ℕ) (bytes : (k : ℕ) → getD xs k 0 < 256) where
       let room : suc at + n ≤ length xs = rw suc-add (rw add-suc at h) in
       ap₂ (λ (k : ℕ) (ys : List ℕ). k ∷ ys) top (bytesOf-get n (a * 256 + b) (suc at) room)
       ∙ ap (take (suc n)) (sym (drop-cons xs at 0 (omega arith)))
-
-  pub put-get : (n at : ℕ) → at + n ≤ length xs → put n (get n 0 at xs) at xs ≡ xs
-  put-get n at h =
-      put-splits n (get n 0 at xs) at xs h
-      ∙ ap (λ (ys : List ℕ). take at xs ++ ys ++ drop (at + n) xs) (bytesOf-get n 0 at h)
-      ∙ ap (λ (ys : List ℕ). ys ++ drop (at + n) xs) (sym (take-add at n xs))
-      ∙ take-append-drop (at + n) xs

@@ -2,19 +2,16 @@
 --
 --   put-none, get-none        : nothing left to write or to read
 --   put-one, get-one          : one byte at a time, as a loop goes that counts down what is left
---   put-length                : a write keeps the length
---   put-before, put-behind    : every byte before the field, and every byte behind it, stays
+--   put-before                : every byte before the field stays
 --   get-put, round-trip       : what was written is read
---   get-agree                 : a read looks at its own n bytes only
---   get-before, get-behind    : a field is not changed by a write behind it or before it
 use mathlib.Core.Path.{_≡_, refl, sym, ap, ap₂, _∙_}
 use Prim.Native.Nat.{ℕ, zero, suc, _+_, _-_, _*_, _%_, _^_, _≤_, _<_}
-use native.Mathlib.Nat.{suc-add, add-suc, add-zero, zero-add, add-assoc, add-mul, mul-assoc, mul-one, zero-mul, mod-eq-of-lt, mod-one, ne-of-gt, ne-of-lt, le-refl}
+use native.Mathlib.Nat.{suc-add, add-suc, add-zero, zero-add, add-assoc, add-mul, mul-assoc, mul-one, zero-mul, mod-eq-of-lt, mod-one, ne-of-lt}
 use native.Mathlib.Numerals.{add-one, sub-one}
 use native.Mathlib.Omega.{arith}
 use mathlib.Core.List.{List}
 use lib.ListN.{length, set, getD, length-set}
-use lib.Seq.{length-sets, getD-set-same, getD-set-other}
+use lib.Seq.{getD-set-same, getD-set-other}
 use lib.Pow.{pow-add, mod-pow-add}
 use Rattle.big_endian.specs.Fields.{digit, bytesOf, put, get}
 
@@ -48,23 +45,12 @@ get-one (suc n) a at xs h = rw (sub-one (suc n), add-one at)
 
 -- ---- what a write leaves
 
-pub put-length : (n v at : ℕ) (xs : List ℕ) → length (put n v at xs) ≡ length xs
-unfolding put
-put-length n v at xs = length-sets xs at (bytesOf n v)
-
 -- every byte before the field, and every byte behind it, stays
 pub put-before : (n v at k : ℕ) (xs : List ℕ) → k < at → getD (put n v at xs) k 0 ≡ getD xs k 0
 unfolding bytesOf put
 put-before zero v at k xs h = refl
 put-before (suc n) v at k xs h =
     put-before n v (suc at) k (set xs at (digit n v)) (omega arith) ∙ getD-set-other xs at k (digit n v) 0 (ne-of-lt h)
-
-pub put-behind : (n v at k : ℕ) (xs : List ℕ) → at + n ≤ k → getD (put n v at xs) k 0 ≡ getD xs k 0
-unfolding bytesOf put
-put-behind zero v at k xs h = refl
-put-behind (suc n) v at k xs h =
-    let g : suc at + n ≤ k = rw suc-add (rw add-suc at h) in
-    put-behind n v (suc at) k (set xs at (digit n v)) g ∙ getD-set-other xs at k (digit n v) 0 (ne-of-gt (omega arith))
 
 -- ---- what was written is read
 
@@ -99,16 +85,3 @@ round-trip n v at xs h k = get-put n v 0 at xs h ∙ zero-then (v % 2 ^ (8 * n))
     zero-then x = ap (λ (y : ℕ). y + x) (zero-mul (2 ^ (8 * n))) ∙ zero-add x
 
 -- ---- a field is not changed by a write before it or behind it
-
-pub get-agree : (n a at : ℕ) (xs ys : List ℕ) → ((k : ℕ) → at ≤ k → k < at + n → getD xs k 0 ≡ getD ys k 0) → get n a at xs ≡ get n a at ys
-unfolding get
-get-agree zero a at xs ys h = refl
-get-agree (suc n) a at xs ys h =
-    ap (λ (x : ℕ). get n (a * 256 + x) (suc at) xs) (h at (le-refl at) (omega arith))
-    ∙ get-agree n (a * 256 + getD ys at 0) (suc at) xs ys (λ (k : ℕ) (l : suc at ≤ k) (g : k < suc at + n). h k (omega arith) (omega arith))
-
-pub get-before : (n a at m v to : ℕ) (xs : List ℕ) → at + n ≤ to → get n a at (put m v to xs) ≡ get n a at xs
-get-before n a at m v to xs h = get-agree n a at (put m v to xs) xs (λ (k : ℕ) (l : at ≤ k) (g : k < at + n). put-before m v to k xs (omega arith))
-
-pub get-behind : (n a at m v to : ℕ) (xs : List ℕ) → to + m ≤ at → get n a at (put m v to xs) ≡ get n a at xs
-get-behind n a at m v to xs h = get-agree n a at (put m v to xs) xs (λ (k : ℕ) (l : at ≤ k) (g : k < at + n). put-behind m v to k xs (omega arith))

@@ -1,7 +1,7 @@
 -- The letters of document 01 hold (specs/Letters.antt), by computing.
 use mathlib.Core.Path.{refl}
 use Rattle.divisors.specs.Divisor.{gcd, steps}
-use Rattle.geometry.specs.EmBox.{allInBox, inBox, inEmBox, allInEmBox}
+use Rattle.geometry.specs.EmBox.{allInBox, inBox}
 use Rattle.geometry.specs.Plane.{holds}
 use Rattle.geometry.specs.Order.{before}
 use Rattle.geometry.specs.Points.{points, flat}

@@ -5,8 +5,7 @@
 --   accepted-count            : the answer is the number of points named
 --   accepted-some, accepted-few : they are 1 to 4,096
 --   accepted-in-box           : each of them is in the em box
---   accepted-front, accepted-rest : they stand at the front of the list, and the rest of it is as it was
---   accepted-points           : read back from the front of the list they are those named
+--   accepted-front            : they stand at the front of the list
 use Prim.Native.Nat.{ℕ, suc, _+_, _*_, _≤_, _<_}
 use mathlib.Core.Path.{_≡_, sym, _∙_, ap}
 use mathlib.Core.Logic.{_⊎_, inl, inr}
@@ -17,13 +16,13 @@ use borrow.Author.Tests.{le-ltb, ltb-false, leb-false, eqb-false, not-false}
 use lib.Dec.{ltb, leb, eqb}
 use lib.IntN.{ℤ}
 use lib.ListN.{length, take, drop}
-use lib.Seq.{take-at, drop-at}
+use lib.Seq.{take-at}
 use Rattle.answers.specs.Outcome.{Outcome, given, refuseIf}
 use Rattle.geometry.specs.declared.Point.{Point}
 use Rattle.geometry.specs.EmBox.{inEmBox}
-use Rattle.geometry.specs.Points.{points, flat, firstPoints}
+use Rattle.geometry.specs.Points.{flat}
 use Rattle.answers.proofs.OutcomeLaws.{not-given, given-same, not-refused}
-use Rattle.geometry.proofs.PointLists.{length-flat, points-of-flat}
+use Rattle.geometry.proofs.PointLists.{length-flat}
 use Rattle.lines.specs.Line.{Line, blank, point, fault}
 use Rattle.description.specs.Description.{linesRead, pointsOn, named, byLine, loadOf, listAfter}
 use Rattle.description.proofs.Loading.{load-judged, after-given}
@@ -100,12 +99,3 @@ module _ (text : List ℕ) (list : List ℤ) (n : ℕ) (accepted : loadOf text l
 
   pub accepted-front : take (2 * n) (listAfter text list) ≡ flat (named text)
   accepted-front = ap (take (2 * n)) (after-given text list n accepted) ∙ take-at (flat (named text)) (drop (length (flat (named text))) list) (2 * n) front-length
-
-  pub accepted-rest : drop (2 * n) (listAfter text list) ≡ drop (2 * n) list
-  accepted-rest =
-      ap (drop (2 * n)) (after-given text list n accepted)
-      ∙ drop-at (flat (named text)) (drop (length (flat (named text))) list) (2 * n) front-length
-      ∙ ap (λ (k : ℕ). drop k list) front-length
-
-  pub accepted-points : firstPoints n (listAfter text list) ≡ named text
-  accepted-points = ap points accepted-front ∙ points-of-flat (named text)

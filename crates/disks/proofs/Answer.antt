@@ -14,7 +14,7 @@ use lib.IntN.{ℤ, pos, negsuc, negℤ, _+ℤ_, _-ℤ_, _*ℤ_}
 use lib.Signed.{_≤ℤ_, _<ℤ_}
 use Rattle.integers.proofs.Tests.{test-true}
 use Rattle.integers.proofs.Ring.{poly}
-use Rattle.integers.proofs.Order.{*-pos, le-pos, nonneg, nonneg-by, positive, lt, le, eq, nn, _⊞_, _⊠_}
+use Rattle.integers.proofs.Order.{*-pos, le-pos, nonneg, nonneg-by, lt, le, eq, nn, _⊞_, _⊠_}
 use Rattle.geometry.specs.declared.Point.{Point}
 use Rattle.geometry.specs.declared.Limits.{Limits}
 use Rattle.geometry.specs.EmBox.{em, inBox, WithinLimits}

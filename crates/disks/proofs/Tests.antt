@@ -15,7 +15,6 @@ use Prim.Native.Nat.{ℕ, zero, suc, _*_, _/_, _<_, _∣_}
 use native.Mathlib.Nat.{div-zero, zero-div, mul-div-cancel-left, mul-pos}
 use native.Mathlib.Omega.{arith}
 use lib.IntN.{ℤ, pos, negsuc, negℤ, natAbs, _+ℤ_, _-ℤ_, _*ℤ_}
-use lib.Dec.{T}
 use lib.Signed.{_<ℤ_, ltZ, leZ, quotZ}
 use Rattle.integers.proofs.Tests.{test-true, below, not-below, same-test}
 use Rattle.divisors.specs.Divisor.{common}

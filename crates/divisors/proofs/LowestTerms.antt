@@ -6,20 +6,16 @@
 --   quot-exact                                         : each number is its quotient times the common divisor
 --   natAbs-quot                                        : the quotient's size is the size's quotient
 --   lowest-pos                                         : for e ≥ 1 the third number in lowest terms is ≥ 1
---   lowest-proportion                                  : the triple in lowest terms is in proportion with the triple
 --
 -- Scaling, and that a reduced triple is the only one in its proportion: Reduced.antt.
 use mathlib.Core.Path.{_≡_, refl, sym, ap, _∙_, subst}
 use Prim.Native.Nat.{ℕ, zero, suc, _*_, _/_, _≤_, _<_, _∣_}
 use native.Mathlib.Nat.{dvd-trans, le-of-dvd, pos-of-dvd-of-pos, mul-dvd-mul-right, div-mul-cancel, eq-one-of-dvd-one, dvd-of-mul-dvd-mul-right, one-mul, zero-mul, not-suc-le-zero, zero-lt-suc}
-use mathlib.Core.List.{[], _∷_}
 use lib.IntN.{ℤ, pos, negsuc, negℤ, natAbs, _*ℤ_}
 use lib.Signed.{quotZ}
 use Rattle.integers.proofs.Abs.{abs-neg}
 use Rattle.divisors.specs.Divisor.{gcd, Reduced, common, lowest}
 use Rattle.divisors.proofs.Gcd.{gcd-left, gcd-right, gcd-greatest}
-use Rattle.integers.proofs.Ring.{poly, linear, eqn, _&_}
-use Rattle.divisors.specs.declared.Triple.{Triple}
 
 -- ---- the common divisor
 
@@ -79,15 +75,3 @@ lowest-pos x y e h = quotient-pos (e / common x y e) (subst (λ (n : ℕ). 0 < n
     quotient-pos : (q : ℕ) → 0 < q * common x y e → 0 < q
     quotient-pos zero p = absurd (not-suc-le-zero (subst (λ (n : ℕ). 0 < n) (zero-mul (common x y e)) p))
     quotient-pos (suc q) p = zero-lt-suc q
-
--- a / g over b / g is a over b
-proportion : (a a' b b' g : ℤ) → a' *ℤ g ≡ a → b' *ℤ g ≡ b → a' *ℤ b ≡ a *ℤ b'
-proportion a a' b b' g h k = linear (a ∷ a' ∷ b ∷ b' ∷ g ∷ []) (eqn b' h & eqn (negℤ a') k) (search poly depth 30) tt
-
-pub lowest-proportion : (x y : ℤ) (e : ℕ) → (lowest x y e .x *ℤ pos e ≡ x *ℤ pos (lowest x y e .e)) × (lowest x y e .y *ℤ pos e ≡ y *ℤ pos (lowest x y e .e))
-lowest-proportion x y e = (of x (divides-x x y e), of y (divides-y x y e))
-  where
-    of : (z : ℤ) → common x y e ∣ natAbs z → quotZ z (pos (common x y e)) *ℤ pos e ≡ z *ℤ pos (e / common x y e)
-    of z h =
-        let g = common x y e in
-        proportion z (quotZ z (pos g)) (pos e) (pos (e / g)) (pos g) (quot-exact z g h) (ap pos (div-mul-cancel g (divides-e x y e)))

@@ -3,8 +3,6 @@
 --   two-suc                 : 2(n + 1) as two more than 2n
 --   length-flat             : the numbers of n points are 2n
 --   flat-append             : the numbers of two lists of points, one after the other
---   points-flat             : the points of the numbers of ps, with more numbers behind
---   flat-points             : the numbers of the points of a list of even length are the list
 --   firstPoints-flat        : of those numbers with more behind, the first points are ps
 --   firstPoints-whole       : with n half the length, rounded down, the first n points are all; firstPoints-all: of an even length
 --   flat-firstPoints        : the numbers of the first n points and the rest are the list
@@ -17,7 +15,7 @@
 use mathlib.Core.Path.{_≡_, refl, sym, ap, _∙_}
 use mathlib.Core.Logic.{_⊎_, inl, inr}
 use mathlib.Core.List.{List, [], _∷_, _++_, append-assoc, List·Memᴰ, List·Memᴰ·head, List·Memᴰ·tail, List·Memᴰ·cases-cons, List·Memᴰ·not-nil}
-use Prim.Native.Nat.{ℕ, zero, suc, _+_, _*_, _%_, _≤_, _<_}
+use Prim.Native.Nat.{ℕ, zero, suc, _+_, _*_, _≤_, _<_}
 use native.Mathlib.Nat.{add-zero}
 use native.Mathlib.Numerals.{add-one, add-two}
 use native.Mathlib.Omega.{arith}
@@ -45,21 +43,10 @@ unfolding flat
 flat-append [] qs = refl
 flat-append (p ∷ ps) qs = ap {B = List ℤ} (λ l. p .x ∷ p .y ∷ l) (flat-append ps qs)
 
-pub points-flat : (ps : List Point) (rest : List ℤ) → points (flat ps ++ rest) ≡ ps ++ points rest
-unfolding points flat
-points-flat [] rest = refl
-points-flat (p ∷ ps) rest = ap {B = List Point} (λ qs. p ∷ qs) (points-flat ps rest)
-
 pub points-of-flat : (ps : List Point) → points (flat ps) ≡ ps
 unfolding points flat
 points-of-flat [] = refl
 points-of-flat (p ∷ ps) = ap {B = List Point} (λ qs. p ∷ qs) (points-of-flat ps)
-
-pub flat-points : (l : List ℤ) → length l % 2 ≡ 0 → flat (points l) ≡ l
-unfolding points flat
-flat-points [] h = refl
-flat-points (x ∷ []) h = absurd (omega arith)
-flat-points (x ∷ y ∷ l) h = ap {B = List ℤ} (λ r. x ∷ y ∷ r) (flat-points l (omega arith))
 
 -- ---- the first points
 

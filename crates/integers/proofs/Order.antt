@@ -1,11 +1,11 @@
 -- The order of ℤ (`_≤ℤ_`, `_<ℤ_` of lib.Signed): its laws, and inequalities of polynomials, proved from a certificate.
 --
---   ≤-refl, ≤-trans, ≤-antisym, ≤-or-<, compared, dec-≤, dec-<      : a decidable total order
+--   ≤-refl, ≤-trans, ≤-antisym, ≤-or-<, compared                  : a total order
 --   eqZ-eq, eq-eqZ                                                  : equality, by its test
 --   ≤-of-<, <-trans, ≤-<-trans, <-≤-trans, <-≤-clash                : `<` beside it
 --   ≤-to-nn, nn-to-≤, <-to-≤, ≤-to-<, pos-le, le-pos                : a ≤ b as 0 ≤ b - a, a < b as a + 1 ≤ b, and naturals
---   +-mono, *-mono, neg-mono, *-pos, ≤-cancel, <-cancel, ≡-cancel   : sums, products, and a factor that cancels
---   sum-squares-zero, two-times-le                                  : squares
+--   neg-mono, *-pos, ≤-cancel, <-cancel, ≡-cancel                   : products, and a factor that cancels
+--   sum-squares-zero                                                : squares
 --   nonneg, positive, clash, nonneg-by                              : any inequality, from a certificate (below)
 --
 -- `_≤ℤ_` binds tighter than `_+ℤ_` (infix 50, against 6): `a +ℤ b ≤ℤ c` is refused, and `(a +ℤ b) ≤ℤ c` is meant. `_≼_` and `_≺_` of specs/Order are
@@ -192,12 +192,6 @@ clash ρ h q t = absurd ((subst (λ (z : ℤ). pos 0 ≤ℤ z) (sym (ring ρ q t
 
 -- ---- laws
 
-pub +-mono : {a b c d : ℤ} → a ≤ℤ b → c ≤ℤ d → (a +ℤ c) ≤ℤ (b +ℤ d)
-+-mono {a} {b} {c} {d} h k = nonneg (a ∷ b ∷ c ∷ d ∷ []) (le h ⊞ le k) (search poly depth 30) tt
-
-pub *-mono : {a b c : ℤ} → pos 0 ≤ℤ c → a ≤ℤ b → (c *ℤ a) ≤ℤ (c *ℤ b)
-*-mono {a} {b} {c} h k = nonneg (a ∷ b ∷ c ∷ []) (h ⊠ le k) (search poly depth 30) tt
-
 pub neg-mono : {a b : ℤ} → a ≤ℤ b → negℤ b ≤ℤ negℤ a
 neg-mono {a} {b} h = nonneg (a ∷ b ∷ []) (le h) (search poly depth 30) tt
 
@@ -232,20 +226,6 @@ compared a b = go (≤-or-< a b) (≤-or-< b a)
     go (inl h) (inl k) = same (≤-antisym h k)
     go (inl h) (inr k) = less k
     go (inr h) k = more h
-
-pub dec-≤ : (a b : ℤ) → Dec (a ≤ℤ b)
-dec-≤ a b = go (≤-or-< a b)
-  where
-    go : (a ≤ℤ b) ⊎ (b <ℤ a) → Dec (a ≤ℤ b)
-    go (inl h) = yes h
-    go (inr k) = no (λ h. <-≤-clash k h)
-
-pub dec-< : (a b : ℤ) → Dec (a <ℤ b)
-dec-< a b = go (≤-or-< b a)
-  where
-    go : (b ≤ℤ a) ⊎ (a <ℤ b) → Dec (a <ℤ b)
-    go (inl h) = no (λ k. <-≤-clash k h)
-    go (inr k) = yes k
 
 -- a positive factor cancels
 pub ≤-cancel : {k a b : ℤ} → pos 0 <ℤ k → (k *ℤ a) ≤ℤ (k *ℤ b) → a ≤ℤ b
@@ -285,6 +265,3 @@ sum-squares-zero a b e = (square-zero a (≤-antisym left (sq a)), square-zero b
 
     right : (b *ℤ b) ≤ℤ pos 0
     right = nonneg (a ∷ b ∷ []) (sq a ⊞ eq (negsuc 0) e) (search poly depth 30) tt
-
-pub two-times-le : (a b : ℤ) → (pos 2 *ℤ (a *ℤ b)) ≤ℤ (a *ℤ a +ℤ b *ℤ b)
-two-times-le a b = nonneg (a ∷ b ∷ []) (sq (a -ℤ b)) (search poly depth 30) tt

@@ -4,23 +4,21 @@
 --   valid-enclosure  : so are those that the engine gives for a list
 use mathlib.Core.Path.{_≡_, refl, sym, subst}
 use mathlib.Core.Bool.{true}
-use mathlib.Core.List.{List, [], _∷_, List·Memᴰ·head}
+use mathlib.Core.List.{List, [], _∷_}
 use borrow.Author.Tests.{le-leb}
 use lib.Dec.{T}
 use lib.IntN.{ℤ}
 use lib.ListN.{length}
 use Rattle.point_lists.proofs.Rising.{rising-test}
 use Rattle.answers.specs.Outcome.{given}
-use Rattle.integers.proofs.Tests.{test-true, both}
+use Rattle.integers.proofs.Tests.{both}
 use Rattle.geometry.specs.declared.Point.{Point}
 use Rattle.geometry.specs.EmBox.{em, inEmBox, allInEmBox}
-use Rattle.geometry.specs.Order.{before}
 use Rattle.geometry.specs.Points.{points}
 use Rattle.geometry.proofs.EmBox.{box-members, members-box}
 use Rattle.point_lists.specs.Sets.{In}
 use Rattle.disks.specs.Procedure.{diskOf}
 use Rattle.disks.specs.Support.{firstSupport}
-use Rattle.point_lists.specs.Rising.{Rising, rising}
 use Rattle.disks.specs.FirstSupport.{IsSupport}
 use Rattle.disks.proofs.Welzl.{smallest}
 use Rattle.disks.proofs.Answer.{em-square, limits}

@@ -17,7 +17,7 @@ use Rattle.geometry.specs.declared.Point.{Point}
 use Rattle.geometry.specs.declared.Disk.{Disk}
 use Rattle.geometry.specs.EmBox.{em, allInBox, inEmBox, allInEmBox}
 use Rattle.geometry.specs.Order.{before}
-use Rattle.validity.specs.Valid.{oneToThree, validPoints, valid}
+use Rattle.validity.specs.Valid.{oneToThree, valid}
 use Rattle.point_lists.specs.Rising.{rising}
 use Rattle.record_writer.specs.Layout.{recordLength, firstAt, secondAt, thirdAt}
 use Rattle.record_writer.specs.Bytes.{diskBytes, pointsBytes, recordBytes}

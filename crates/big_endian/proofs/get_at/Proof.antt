@@ -12,9 +12,6 @@ use Rattle.big_endian.specs.Fields.{get}
 use Rattle.big_endian.proofs.FieldLaws.{get-none, get-one}
 use Rattle.big_endian.proofs.get_at.Statement.{statement}
 use Rattle.big_endian.proofs.get_at.Tie as tie
-use Rattle.big_endian.proofs.get_at.Reads as reads
-use Rattle.big_endian.proofs.get_at.Lts as lts
-use Rattle.big_endian.proofs.wide.Reads as wide-reads
 
 abbrev Inv-loop : tie.InvT-loop
 Inv-loop buf at n sum₀ left₀ i₀ sum left i = (i + left ≡ at + n) × (left ≤ n) × (sum < 2 ^ (8 * (n - left))) × (get left sum i buf ≡ get n 0 at buf)

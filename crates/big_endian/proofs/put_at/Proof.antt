@@ -10,8 +10,6 @@ use Rattle.big_endian.specs.Fields.{put}
 use Rattle.big_endian.proofs.FieldLaws.{put-none, put-one}
 use Rattle.big_endian.proofs.put_at.Statement.{statement}
 use Rattle.big_endian.proofs.put_at.Tie as tie
-use Rattle.big_endian.proofs.put_at.Reads as reads
-use Rattle.big_endian.proofs.put_at.Lts as lts
 
 abbrev Inv-loop : tie.InvT-loop
 Inv-loop buf₀ at n v left₀ i₀ buf left i =

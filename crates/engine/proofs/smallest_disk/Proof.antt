@@ -16,11 +16,6 @@ use Rattle.engine.proofs.Checks.{refused-odd, refused-empty, refused-lo
 use Rattle.engine.proofs.Found.{box-left, disk-left, support-left}
 use Rattle.engine.proofs.smallest_disk.Statement.{statement}
 use Rattle.engine.proofs.smallest_disk.Tie as tie
-use Rattle.engine.proofs.smallest_disk.Reads as reads
-use Rattle.engine.proofs.smallest_disk.Lts as lts
-use Rattle.engine.proofs.all_in_em_box.Reads as all-in-em-box-reads
-use Rattle.support.proofs.first_support.Reads as first-support-reads
-use Rattle.welzl.proofs.smallest.Reads as smallest-reads
 
 -- where all points have been looked at: the tests before, and the list as it came
 abbrev checked : tie.After-all-in-em-box → tie.Else3

@@ -2,9 +2,10 @@
 use borrow.Author.Needs.{needs}
 use lib.IntN.{_+ℤ_, _*ℤ_}
 use mathlib.Core.Path.{refl}
+use lib.Signed.{ltZ}
 use mir.Syntax.{w64}
 use mir.Val.{toZ, ofZ}
-use Rattle.integers.proofs.Bounds.{Value, v-add, v-mul, v-back, v-lit, t-lt, fits, tests-as}
+use Rattle.integers.proofs.Bounds.{Value, v-add, v-mul, v-back, v-lit, fits, ap-values}
 use Rattle.support_tests.specs.Tests.{acuteAt}
 use Rattle.support_tests.proofs.Numbers.{minus-value}
 use Rattle.support_tests.proofs.is_acute_at.Statement.{statement}
@@ -59,7 +60,7 @@ add-result c = fits (product c) tt
 
 returns : tie.Need-returns
 unfolding acuteAt
-returns c = tests-as (t-lt (v-lit {n = 0} refl) (v-back w64 (product c))) tt
+returns c = ap-values ltZ (v-lit {n = 0} refl) (v-back w64 (product c)) tt
 
 pub is-acute-at-spec : {M : Type 1} → statement M
 is-acute-at-spec =
