@@ -12,7 +12,8 @@ use mathlib.Core.List.{List, [], _∷_, List·Memᴰ·head, List·Memᴰ·tail, 
 use lib.IntN.{ℤ, pos, negsuc, negℤ, _+ℤ_, _-ℤ_, _*ℤ_}
 use lib.Signed.{_≤ℤ_, _<ℤ_}
 use Rattle.integers.proofs.Ring.{ring, poly, linear, eqn}
-use Rattle.integers.proofs.Order.{≤-of-eq, ≤-of-<, nonneg, positive, nonneg-by, clash, le, lt, eq, sq, nn, _⊞_, _⊠_, <-≤-clash, Compared, less, same, more, compared}
+use Rattle.integers.proofs.Order.{≤-of-eq, ≤-of-<, nonneg, positive, nonneg-by, clash, le, lt, eq, sq, nn, _⊞_, _⊠_, <-≤-clash, Compared, less, same, more}
+use Rattle.integers.proofs.Order.{compared}
 use Rattle.geometry.specs.declared.Point.{Point}
 use Rattle.point_lists.specs.Sets.{In}
 use Rattle.point_lists.proofs.Sets.{none-of, also}

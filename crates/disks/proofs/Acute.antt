@@ -11,7 +11,8 @@ use mathlib.Core.List.{[], _∷_, List·Memᴰ·head, List·Memᴰ·tail, List·
 use lib.IntN.{ℤ, pos, negℤ, _+ℤ_, _-ℤ_, _*ℤ_}
 use lib.Signed.{_≤ℤ_, _<ℤ_}
 use Rattle.integers.proofs.Ring.{ring, poly, linear, eqn, _&_}
-use Rattle.integers.proofs.Order.{≤-of-eq, ≤-of-<, ≤-or-<, nonneg, clash, le, lt, eq, sq, nn, _⊞_, _⊠_, <-≤-clash, *-pos, Compared, less, same, more, compared, sum-squares-zero}
+use Rattle.integers.proofs.Order.{≤-of-eq, ≤-of-<, ≤-or-<, nonneg, clash, le, lt, eq, sq, nn, _⊞_, _⊠_, <-≤-clash, *-pos, Compared, less, same, more}
+use Rattle.integers.proofs.Order.{compared, sum-squares-zero}
 use Rattle.geometry.specs.declared.Point.{Point}
 use Rattle.point_lists.proofs.Sets.{none-of, also}
 use Rattle.disks.proofs.Lifted.{Lifted, value, squaredRadius}

@@ -23,7 +23,8 @@ use Rattle.integers.proofs.Ring.{ring, poly}
 use Rattle.integers.proofs.Order.{positive, lt, nn, _⊞_, _⊠_, <-cancel}
 use Rattle.geometry.specs.declared.Point.{Point}
 use Rattle.geometry.specs.declared.Disk.{Disk}
-use Rattle.disks.specs.Procedure.{Cover, empty, disk, outside, lowestTerms, pointDisk, diameterDisk, turnedBy, circle, boundaryDisk, State, tested, step, through, start, run, norm, diskIn, diskOf}
+use Rattle.disks.specs.Procedure.{Cover, empty, disk, outside, lowestTerms, pointDisk, diameterDisk, turnedBy, circle, boundaryDisk, State, tested}
+use Rattle.disks.specs.Procedure.{step, through, start, run, norm, diskIn, diskOf}
 use Rattle.disks.proofs.Lifted.{Lifted, value, squaredRadius}
 use Rattle.disks.proofs.Minimal.{Feasible, StronglyMinimal}
 use Rattle.disks.proofs.Base.{pointForm, pairForm}
@@ -31,7 +32,8 @@ use Rattle.disks.proofs.Triple as C
 use Rattle.point_lists.specs.Sets.{Different}
 use Rattle.disks.proofs.Triple.{turn, turned, vanishing, tripleForm}
 use Rattle.disks.proofs.LiftedProcedure.{LiftedState, boundaryForm, liftedOutside, liftedTested, turn-at, one-by-one, liftedStart, runWith, liftedMtf}
-use Rattle.disks.proofs.Correct.{MinimalSoFar, found, none-yet, base-found, full-found, RunCorrect, turn-ran, inner-feasible, inner-different, feasible-front, next, run-ran, large-feasible, mtf-strong}
+use Rattle.disks.proofs.Correct.{MinimalSoFar, found, none-yet, base-found, full-found, RunCorrect, turn-ran, inner-feasible, inner-different}
+use Rattle.disks.proofs.Correct.{feasible-front, next, run-ran, large-feasible, mtf-strong}
 use Rattle.disks.proofs.SupportPoints.{Supported, one, two, three, support}
 use Rattle.disks.proofs.Tests.{same-ltZ, outside-none, outside-written}
 use Rattle.disks.proofs.LowestTerms.{lowered, Written, lowered-written}

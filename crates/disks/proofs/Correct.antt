@@ -22,10 +22,12 @@ use Rattle.geometry.specs.declared.Point.{Point}
 use Rattle.point_lists.specs.Sets.{In, Same, Different}
 use Rattle.point_lists.proofs.Sets.{same-sym}
 use Rattle.disks.proofs.Lifted.{Lifted, value, noDisk, value-none}
-use Rattle.disks.proofs.Minimal.{Feasible, StronglyMinimal, Below, feasible-same, strong-same, strong-below, none-below, throughPoint, to-boundary, step-strong, held}
+use Rattle.disks.proofs.Minimal.{Feasible, StronglyMinimal, Below, feasible-same, strong-same, strong-below, none-below, throughPoint, to-boundary}
+use Rattle.disks.proofs.Minimal.{step-strong, held}
 use Rattle.disks.proofs.Base.{point-strong, pair-strong, positive-one}
 use Rattle.disks.proofs.Triple.{triple-strong}
-use Rattle.disks.proofs.LiftedProcedure.{LiftedState, boundaryForm, liftedOutside, liftedTested, turn-at, one-by-one, liftedStart, runWith, liftedRun, liftedMtf}
+use Rattle.disks.proofs.LiftedProcedure.{LiftedState, boundaryForm, liftedOutside, liftedTested, turn-at, one-by-one, liftedStart, runWith}
+use Rattle.disks.proofs.LiftedProcedure.{liftedRun, liftedMtf}
 use Rattle.disks.proofs.Lists.{perm-same, last-first}
 
 -- ---- what was found

@@ -13,7 +13,8 @@ use lib.IntN.{ℤ, pos, negsuc, negℤ, _+ℤ_, _-ℤ_, _*ℤ_}
 use lib.Signed.{_≤ℤ_, _<ℤ_}
 use Rattle.integers.proofs.Laws.{eq-of-sub}
 use Rattle.integers.proofs.Ring.{ring, poly, linear, eqn, _&_}
-use Rattle.integers.proofs.Order.{≤-of-<, ≤-antisym, <-to-≤, ≤-to-<, pos-le, le-pos, nonneg, nonneg-by, le, eq, sq, _⊞_, _⊠_, *-pos, <-cancel, sum-squares-zero, ≡-cancel}
+use Rattle.integers.proofs.Order.{≤-of-<, ≤-antisym, <-to-≤, ≤-to-<, pos-le, le-pos, nonneg, nonneg-by, le, eq, sq, _⊞_, _⊠_, *-pos, <-cancel}
+use Rattle.integers.proofs.Order.{sum-squares-zero, ≡-cancel}
 use Rattle.geometry.specs.declared.Point.{Point}
 use Rattle.geometry.specs.declared.Disk.{Disk}
 use Rattle.geometry.specs.Plane.{distance, holds, onBoundary}

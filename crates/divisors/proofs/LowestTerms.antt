@@ -10,7 +10,8 @@
 -- Scaling, and that a reduced triple is the only one in its proportion: Reduced.antt.
 use mathlib.Core.Path.{_≡_, refl, sym, ap, _∙_, subst}
 use Prim.Native.Nat.{ℕ, zero, suc, _*_, _/_, _≤_, _<_, _∣_}
-use native.Mathlib.Nat.{dvd-trans, le-of-dvd, pos-of-dvd-of-pos, mul-dvd-mul-right, div-mul-cancel, eq-one-of-dvd-one, dvd-of-mul-dvd-mul-right, one-mul, zero-mul, not-suc-le-zero, zero-lt-suc}
+use native.Mathlib.Nat.{dvd-trans, le-of-dvd, pos-of-dvd-of-pos, mul-dvd-mul-right, div-mul-cancel, eq-one-of-dvd-one, dvd-of-mul-dvd-mul-right, one-mul}
+use native.Mathlib.Nat.{zero-mul, not-suc-le-zero, zero-lt-suc}
 use lib.IntN.{ℤ, pos, negsuc, negℤ, natAbs, _*ℤ_}
 use lib.Signed.{quotZ}
 use Rattle.integers.proofs.Abs.{abs-neg}

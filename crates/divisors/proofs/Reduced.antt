@@ -51,6 +51,3 @@ module _ (x y : ℤ) (e : ℕ) (x' y' : ℤ) (e' : ℕ) (h : 0 < e) (h' : 0 < e'
 
   pub reduced-unique : (x ≡ x') × (y ≡ y') × (e ≡ e')
   reduced-unique = (same-number x x' px, same-number y y' py, same-e)
-
-module _ (x y : ℤ) (e : ℕ) (x' y' : ℤ) (e' : ℕ) (h : 0 < e) (h' : 0 < e') (r' : Reduced x' y' e')
-    (px : x' *ℤ pos e ≡ x *ℤ pos e') (py : y' *ℤ pos e ≡ y *ℤ pos e') where

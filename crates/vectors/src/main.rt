@@ -42,15 +42,19 @@ fn solve(list: &mut [i16]) {
     printing::print_count(b"left", checksum::of_list(list));
 }
 
-// The list that the engine leaves, of an accepted description.
+// The list as the engine leaves it.
+fn print_order(list: &mut [i16]) {
+    engine::smallest_disk(list);
+    printing::print_count(b"left", checksum::of_list(list));
+}
+
+// The list of an accepted description, as the engine leaves it.
 fn print_left(text: &[u8]) {
     let mut list = [0i16; 8192];
-    let description::Loaded::Points(n) = description::load(text, &mut list) else {
-        return;
-    };
-    if n <= 4096 {
-        engine::smallest_disk(&mut list[..2 * n]);
-        printing::print_count(b"left", checksum::of_list(&list[..2 * n]));
+    if let description::Loaded::Points(n) = description::load(text, &mut list) {
+        if n <= 4096 {
+            print_order(&mut list[..2 * n]);
+        }
     }
 }
 

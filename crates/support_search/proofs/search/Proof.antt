@@ -13,7 +13,9 @@ use Rattle.geometry.proofs.PointRows.{firstPoints-from, firstPoints-end}
 use Rattle.disks.specs.Support.{choose}
 use Rattle.support_tests.specs.Tests.{fits}
 use Rattle.support_search.specs.Search.{firstFit}
-use Rattle.support_search.proofs.Left.{fit-some, acuteSet, three-acute, ones-hit, ones-miss, pairsFrom, pairsWith, triplesFrom, triplesWith, triplesOf, pairs-at, pair-hit, pair-miss, pairs-with-end, pairs-end, triples-at, triples-with-at, triple-hit, triple-miss, triples-of-end, triples-with-end, triples-end}
+use Rattle.support_search.proofs.Left.{fit-some, acuteSet, three-acute, ones-hit, ones-miss, pairsFrom, pairsWith, triplesFrom, triplesWith}
+use Rattle.support_search.proofs.Left.{triplesOf, pairs-at, pair-hit, pair-miss, pairs-with-end, pairs-end, triples-at, triples-with-at, triple-hit}
+use Rattle.support_search.proofs.Left.{triple-miss, triples-of-end, triples-with-end, triples-end}
 use Rattle.support_search.proofs.search.Statement.{statement}
 use Rattle.support_search.proofs.search.Tie as tie
 

@@ -1,10 +1,10 @@
--- `vectors::run_listing` is safe and ends: the part lent is no longer than the list.
+-- `vectors::print_left` is safe and ends: the part lent is no longer than the list.
 use mathlib.Core.Path.{sym}
 use native.Mathlib.Omega.{arith}
 use lib.Seq.{length-take-le}
 use borrow.Author.Needs.{needs}
-use Rattle.vectors.proofs.run_listing.Statement.{statement}
-use Rattle.vectors.proofs.run_listing.Tie as tie
+use Rattle.vectors.proofs.print_left.Statement.{statement}
+use Rattle.vectors.proofs.print_left.Tie as tie
 
 slice-aggregate-load : tie.Need-slice-aggregate-load
 slice-aggregate-load c = search needs
@@ -21,17 +21,14 @@ mul-list c = search needs
 array-borrow-prefix-list : tie.Need-array-borrow-prefix-list
 array-borrow-prefix-list c = search needs
 
-slice-aggregate-solve : tie.Need-slice-aggregate-solve
-slice-aggregate-solve c = sym (length-take-le _ _ (omega arith))
+slice-aggregate-print-order : tie.Need-slice-aggregate-print-order
+slice-aggregate-print-order c = sym (length-take-le _ _ (omega arith))
 
-solve-requires : tie.Need-solve-requires
-solve-requires c κs = search needs
+print-order-requires : tie.Need-print-order-requires
+print-order-requires c κs = search needs
 
-enum-known-r : tie.Need-enum-known-r
-enum-known-r c = search needs
-
-print-refusal-requires : tie.Need-print-refusal-requires
-print-refusal-requires c κs = search needs
+enum-told : tie.Need-enum-told
+enum-told c = search needs
 
 returns : tie.Need-returns
 returns c = search needs
@@ -42,8 +39,8 @@ returns-2 c = search needs
 returns-3 : tie.Need-returns-3
 returns-3 c = search needs
 
-pub run-listing-spec : {M : Type 1} → statement M
-run-listing-spec =
+pub print-left-spec : {M : Type 1} → statement M
+print-left-spec =
     tie.close
     (tie.spec
     slice-aggregate-load
@@ -51,10 +48,9 @@ run-listing-spec =
     enum-known-n
     mul-list
     array-borrow-prefix-list
-    slice-aggregate-solve
-    solve-requires
-    enum-known-r
-    print-refusal-requires
+    slice-aggregate-print-order
+    print-order-requires
+    enum-told
     returns
     returns-2
     returns-3)
