@@ -15,7 +15,7 @@ use Rattle.geometry.specs.declared.Disk.{Disk}
 use Rattle.geometry.specs.Points.{points}
 use Rattle.description.specs.Description.{linesRead, loadOf}
 use Rattle.description.proofs.Loading.{load-judged, after-refused}
-use Rattle.description.proofs.Accepted.{accepted-room, accepted-short, accepted-count, accepted-some, accepted-few, accepted-in-box}
+use Rattle.description.proofs.AcceptedTexts.{accepted-room, accepted-short, accepted-count, accepted-some, accepted-few, accepted-in-box}
 use Rattle.sheet.specs.Sheet.{count, directoryEnd, pair, glyphOf}
 use Rattle.engine.specs.Engine.{enclosure, encloseOf}
 use Rattle.engine.proofs.Checks.{accepted, list-refused, even-length, some-length}

@@ -24,7 +24,7 @@ use Rattle.disks.specs.Support.{firstSupport}
 use Rattle.disks.proofs.Welzl.{mtf-ends, smallest, disk-same, tests-most, order-permuted}
 use Rattle.disks.proofs.First.{first-support-same}
 use Rattle.description.specs.Description.{loadOf, named}
-use Rattle.description.proofs.Accepted.{load-same, accepted-room}
+use Rattle.description.proofs.AcceptedTexts.{load-same, accepted-room}
 use Rattle.engine.specs.Engine.{Enclosure, enclosure, encloseOf, listAfter}
 use Rattle.engine.proofs.Checks.{list-accepted}
 use Rattle.engine.proofs.Accepted.{Accepted, accepted-list, has-point}

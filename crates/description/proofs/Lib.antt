@@ -1,3 +1,3 @@
 pub mod Judging
 pub mod Loading
-pub mod Accepted
+pub mod AcceptedTexts

@@ -24,7 +24,7 @@ use Rattle.geometry.specs.Points.{flat}
 use Rattle.geometry.proofs.EmBox.{members-box}
 use Rattle.geometry.proofs.PointLists.{length-flat, points-of-flat}
 use Rattle.description.specs.Description.{named, loadOf, listAfter}
-use Rattle.description.proofs.Accepted.{accepted-count, accepted-some, accepted-few, accepted-in-box, accepted-front}
+use Rattle.description.proofs.AcceptedTexts.{accepted-count, accepted-some, accepted-few, accepted-in-box, accepted-front}
 use Rattle.engine.specs.Engine.{Enclosure, enclosure, encloseOf}
 use Rattle.engine.proofs.Checks.{accepted}
 use Rattle.validity.specs.Valid.{valid}

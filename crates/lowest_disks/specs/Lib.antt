@@ -1,2 +1,2 @@
--- cited by inner contracts alone
+-- of inner contracts
 pub mod AnswerNumbers

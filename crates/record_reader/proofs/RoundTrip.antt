@@ -24,7 +24,7 @@ use Rattle.record_writer.specs.Bytes.{diskBytes, pointsBytes, recordBytes}
 use Rattle.record_reader.specs.Reading.{diskIn, pointIn, meant, pointsIn, readOf}
 use Rattle.validity.proofs.ValidLaws.{DiskBounds, limits, valid-disk, valid-points, counted, rises, boxed}
 use Rattle.record_writer.proofs.ByteLaws.{not-four, recordBytes-length}
-use Rattle.record_reader.proofs.TenFields.{Small, small, ReadsAs, fields-read, fields-again}
+use Rattle.record_reader.proofs.TenFields.{TwoBytes, small, ReadsAs, fields-read, fields-again}
 use Rattle.record_reader.proofs.Meaning.{meant-one, meant-two, meant-three, made-meant}
 
 -- ---- what the reader makes of a record's bytes
@@ -43,15 +43,15 @@ points-read : {bs : List ℕ} {d : Disk} {a b c : Point} → ReadsAs bs d a b c 
 points-read r = λ i. meant (r .first i) (r .second i) (r .third i)
 
 module _ (d : Disk) (k : DiskBounds em d) where
-  read-one : (a : Point) → Small a → Read (recordBytes d (a ∷ [])) d (a ∷ [])
+  read-one : (a : Point) → TwoBytes a → Read (recordBytes d (a ∷ [])) d (a ∷ [])
   unfolding recordBytes
   read-one a s = let r = fields-read d k a a a s s s in record { disk = r .disk; points = points-read r ∙ meant-one a }
 
-  read-two : (a b : Point) → Small a → Small b → before a b ≡ true → Read (recordBytes d (a ∷ b ∷ [])) d (a ∷ b ∷ [])
+  read-two : (a b : Point) → TwoBytes a → TwoBytes b → before a b ≡ true → Read (recordBytes d (a ∷ b ∷ [])) d (a ∷ b ∷ [])
   unfolding recordBytes
   read-two a b s t h = let r = fields-read d k a b b s t t in record { disk = r .disk; points = points-read r ∙ meant-two a b h }
 
-  read-three : (a b c : Point) → Small a → Small b → Small c → before b c ≡ true → Read (recordBytes d (a ∷ b ∷ c ∷ [])) d (a ∷ b ∷ c ∷ [])
+  read-three : (a b c : Point) → TwoBytes a → TwoBytes b → TwoBytes c → before b c ≡ true → Read (recordBytes d (a ∷ b ∷ c ∷ [])) d (a ∷ b ∷ c ∷ [])
   unfolding recordBytes
   read-three a b c s t u h = let r = fields-read d k a b c s t u in record { disk = r .disk; points = points-read r ∙ meant-three a b c h }
 

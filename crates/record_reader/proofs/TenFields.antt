@@ -1,6 +1,6 @@
 -- A record as ten fields, and the ten fields of any bytes of its length.
 --
---   Small p          == the point's numbers are ones of 2 bytes
+--   TwoBytes p          == the point's numbers are ones of 2 bytes
 --   small            : those of a point in the em box are
 --   ReadsAs bs d a b c == in bs the disk d and the points a, b, c are read
 --   fields-read      : they are, in their own bytes
@@ -49,11 +49,11 @@ record-joined d a b c = simp append-assoc
 
 -- ---- each number is one of its width
 
-pub record Small (p : Point) : Type 0 where
+pub record TwoBytes (p : Point) : Type 0 where
   pub x-small : mag (p .x) < half coordinateWidth
   pub y-small : mag (p .y) < half coordinateWidth
 
-pub small : (p : Point) → inEmBox p ≡ true → Small p
+pub small : (p : Point) → inEmBox p ≡ true → TwoBytes p
 small p h =
     let s = point-size em p h in
     record { x-small = fits {w = w16} (v-abs {z = p .x} (s .0)) tt .sfits; y-small = fits {w = w16} (v-abs {z = p .y} (s .1)) tt .sfits }
@@ -65,7 +65,7 @@ module _ (d : Disk) (k : DiskBounds em d) where
   y-mag : mag (d .y) < half numberWidth
   y-mag = fits {w = w64} (v-abs {z = d .y} (k .y-small)) tt .sfits
 
-  fields-fit : (a b c : Point) → Small a → Small b → Small c → Fit (fields d a b c)
+  fields-fit : (a b c : Point) → TwoBytes a → TwoBytes b → TwoBytes c → Fit (fields d a b c)
   fields-fit a b c f g h =
       let e-fits : d .e < 2 ^ 64 = omega (arith, k .e-small) in
       let s-fits : d .s < 2 ^ 64 = omega (arith, k .s-small, mul-le-mul (k .e-small) (k .e-small)) in (
@@ -102,10 +102,10 @@ pub record ReadsAs (bs : List ℕ) (d : Disk) (a b c : Point) : Type 0 where
   pub second : pointIn secondAt bs ≡ b
   pub third : pointIn thirdAt bs ≡ c
 
-point-read : (p : Point) (at : ℕ) (bs : List ℕ) → Small p → get coordinateWidth 0 at bs ≡ twos coordinateWidth (p .x) → get coordinateWidth 0 (at + coordinateWidth) bs ≡ twos coordinateWidth (p .y) → pointIn at bs ≡ p
+point-read : (p : Point) (at : ℕ) (bs : List ℕ) → TwoBytes p → get coordinateWidth 0 at bs ≡ twos coordinateWidth (p .x) → get coordinateWidth 0 (at + coordinateWidth) bs ≡ twos coordinateWidth (p .y) → pointIn at bs ≡ p
 point-read p at bs s x y = λ i. record { x = (ap (back coordinateWidth) x ∙ back-twos coordinateWidth (p .x) (s .x-small)) i; y = (ap (back coordinateWidth) y ∙ back-twos coordinateWidth (p .y) (s .y-small)) i }
 
-pub fields-read : (d : Disk) → DiskBounds em d → (a b c : Point) → Small a → Small b → Small c
+pub fields-read : (d : Disk) → DiskBounds em d → (a b c : Point) → TwoBytes a → TwoBytes b → TwoBytes c
     → ReadsAs (diskBytes d ++ pointsBytes (a ∷ b ∷ c ∷ [])) d a b c
 fields-read d k a b c f g h =
     let bs = joined (fields d a b c) in

@@ -39,7 +39,7 @@ use Rattle.support_search.specs.Search.{firstFit}
 use Rattle.support_span.specs.Span.{Spanned}
 use Rattle.support_span.proofs.Spans.{spanned-more}
 use Rattle.support.proofs.Boundary.{boundaryOf, boundary-in, in-boundary}
-use Rattle.support.proofs.Found.{search-finds, search-passes, e-some}
+use Rattle.support.proofs.SearchFinds.{search-finds, search-passes, e-some}
 
 pub record Kept (d : Disk) (P Q : List Point) : Type 0 where
   pub rises : Rising Q

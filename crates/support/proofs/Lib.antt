@@ -1,3 +1,3 @@
 pub mod Boundary
-pub mod Found
+pub mod SearchFinds
 pub mod Kept

@@ -1,2 +1,2 @@
--- The search through the sets of points of a list.
+-- of inner contracts
 pub mod Search

@@ -1,2 +1,2 @@
--- Points that a search can leave out.
+-- of inner contracts
 pub mod Span

@@ -31,7 +31,7 @@ use Rattle.geometry.specs.EmBox.{em, inEmBox, largest, WithinLimits}
 use Rattle.geometry.proofs.Coordinates.{widened}
 use Rattle.geometry.proofs.EmBox.{Inside, inside}
 use Rattle.disks.proofs.Answer.{side}
-use Rattle.support_tests.specs.Tests.{midway, Small, SmallDisk}
+use Rattle.support_tests.specs.Tests.{midway, SmallPair, SmallDisk}
 
 -- how far v·e and c can be apart: the side of the em box, times the largest e
 abbrev pub furthest : ℕ
@@ -46,7 +46,7 @@ minus-value b a f g e = v-back w64 (v-eq e (v-add (v-fits f) (v-neg (v-fits g)))
 abbrev pub stored-value : (z : ℤ) {B : ℕ} → natAbs z ≤ B → Value (toZ w64 (ofZ w64 z))
 stored-value z h = v-back w64 {z = z} (v-abs {z = z} h)
 
-pub stored-small : (e : ℕ) (z : ℤ) → Small e z → Small e (toZ w64 (ofZ w64 z))
+pub stored-small : (e : ℕ) (z : ℤ) → SmallPair e z → SmallPair e (toZ w64 (ofZ w64 z))
 stored-small e z h = record { e-most = h .e-most; c-most = at-most (stored-value z (h .c-most)) tt .within }
 
 abbrev pub offset-value :
@@ -83,7 +83,7 @@ module _ (d : Disk) (a : WithinLimits em d) where
   e-high = pos-le (a .e-most)
 
   -- lo and hi are the two sides of the em box along x, or along y
-  centre-small : (lo hi c : ℤ) → negℤ (pos (largest em)) ≼ lo → hi ≼ pos (largest em) → lo *ℤ pos (d .e) ≼ c → c ≼ hi *ℤ pos (d .e) → Small (d .e) c
+  centre-small : (lo hi c : ℤ) → negℤ (pos (largest em)) ≼ lo → hi ≼ pos (largest em) → lo *ℤ pos (d .e) ≼ c → c ≼ hi *ℤ pos (d .e) → SmallPair (d .e) c
   centre-small lo hi c l h low high =
       let m = pos (largest em) in
       let n = pos (em .scale) in

@@ -1,2 +1,2 @@
--- The tests of one to three points against a disk.
+-- of inner contracts
 pub mod Tests

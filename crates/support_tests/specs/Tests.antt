@@ -8,7 +8,7 @@
 --   acute p q r         == its three angles are
 --   fits d T            == the test of a set of one, two or three points on d's boundary: the radius is 0, the two are opposite, the
 --                          three angles are acute
---   Small e c           == e and c are small enough that the tests of v·e − c and 2c fit 64 bits; SmallDisk d: those of d are
+--   SmallPair e c           == e and c are small enough that the tests of v·e − c and 2c fit 64 bits; SmallDisk d: those of d are
 use mathlib.Core.Bool.{Bool, false, _&&_}
 use mathlib.Core.List.{List, [], _∷_}
 use Prim.Native.Nat.{ℕ, _*_, _≤_}
@@ -46,9 +46,9 @@ fits d (p ∷ q ∷ []) = opposite d p q
 fits d (p ∷ q ∷ r ∷ []) = acute p q r
 fits d (p ∷ q ∷ r ∷ t ∷ T) = false
 
-pub record Small (e : ℕ) (c : ℤ) : Type 0 where
+pub record SmallPair (e : ℕ) (c : ℤ) : Type 0 where
   pub e-most : e ≤ em .scale
   pub c-most : natAbs c ≤ largest em * em .scale
 
 abbrev pub SmallDisk : Disk → Type 0
-SmallDisk d = Small (d .e) (d .x) × Small (d .e) (d .y)
+SmallDisk d = SmallPair (d .e) (d .x) × SmallPair (d .e) (d .y)

@@ -5,11 +5,11 @@ ghost use mathlib.Core.Path.{_≡_};
 ghost use lib.Dec.{T};
 ghost use lib.IntN.{pos, _-ℤ_, _*ℤ_};
 ghost use Rattle.geometry.specs.EmBox.{em, inEmBox, WithinLimits};
-ghost use Rattle.support_tests.specs.Tests.{onBoundaryTest, midway, opposite, acuteAt, acute, Small, SmallDisk};
+ghost use Rattle.support_tests.specs.Tests.{onBoundaryTest, midway, opposite, acuteAt, acute, SmallPair, SmallDisk};
 
 // v·e − c
 fn offset(v: i16, e: u64, c: i64) -> i64
-    requires { ⌜ Small e c ⌝ }
+    requires { ⌜ SmallPair e c ⌝ }
     ensures { λ r. ⌜ r ≡ v *ℤ pos e -ℤ c ⌝ }
 {
     geometry::wide(v) * (e as i64) - c
@@ -27,7 +27,7 @@ pub fn on_boundary(disk: Disk, p: Point) -> bool
 
 // (a + b)e = 2c
 fn is_midway(a: i16, b: i16, e: u64, c: i64) -> bool
-    requires { ⌜ Small e c ⌝ }
+    requires { ⌜ SmallPair e c ⌝ }
     ensures { λ r. ⌜ r ≡ midway a b e c ⌝ }
 {
     (geometry::wide(a) + geometry::wide(b)) * (e as i64) == 2 * c

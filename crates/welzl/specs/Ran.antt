@@ -3,7 +3,7 @@
 --   Given R n list               == the first n points of the list and the points of R lie in the em box, and n is at most 4,096
 --   Ran R n before after d t     == d, t and `after` are the disk, the tests and the list that the text's procedure gives on the first n points
 --                                   of `before`, with R fixed, whether or not a disk fits them
---   Accepted list                == 1 to 4,096 points, all in the em box
+--   AllGiven list                == 1 to 4,096 points, all in the em box
 use mathlib.Core.Path.{_≡_}
 use mathlib.Core.Bool.{true}
 use mathlib.Core.List.{List, _++_}
@@ -29,7 +29,7 @@ pub record Ran (fixed : Boundary) (n : ℕ) (before after : List ℤ) (d : Relat
   pub tests-is : tests ≡ mtf (members fixed) (firstPoints n before) .tests
   pub left-is : after ≡ flat (mtf (members fixed) (firstPoints n before) .left) ++ drop (2 * n) before
 
-pub record Accepted (list : List ℤ) : Type 0 where
+pub record AllGiven (list : List ℤ) : Type 0 where
   pub even : length list % 2 ≡ 0
   pub some : 0 < length list
   pub few : length list ≤ 8192

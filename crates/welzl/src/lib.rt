@@ -5,7 +5,7 @@ use relative_disks::RelativeDisk;
 ghost use mathlib.Core.Path.{_≡_};
 ghost use Rattle.geometry.specs.Points.{points, flat};
 ghost use Rattle.disks.specs.Procedure.{diskOf, testsOf, orderOf};
-ghost use Rattle.welzl.specs.Ran.{Given, Ran, Accepted};
+ghost use Rattle.welzl.specs.Ran.{Given, Ran, AllGiven};
 
 // What a run gives, before its disk is written in lowest terms.
 pub struct RelativeRun {
@@ -51,7 +51,7 @@ pub fn mtf(list: &mut [i16], n: usize, fixed: Boundary) -> RelativeRun
 
 // The procedure on the whole list, with no point fixed: the smallest disk, the tests, and the list as the procedure leaves it.
 pub fn smallest(list: &mut [i16]) -> Run
-    requires { ⌜ Accepted (now list) ⌝ }
+    requires { ⌜ AllGiven (now list) ⌝ }
     ensures disk { λ r. ⌜ r .disk ≡ diskOf (points (now (list .entry))) ⌝ }
     ensures tests { λ r. ⌜ r .tests ≡ testsOf (points (now (list .entry))) ⌝ }
     ensures order { λ r. ⌜ now (list .exit) ≡ flat (orderOf (points (now (list .entry)))) ⌝ }

@@ -14,7 +14,7 @@ use Rattle.geometry.specs.Points.{points}
 use borrow.Author.Tests.{not-true, not-false}
 use Rattle.engine.proofs.Checks.{refused-odd, refused-empty, refused-long, refused-outside, accepted, list-refused, list-accepted, even-length}
 use Rattle.engine.proofs.Checks.{some-length}
-use Rattle.engine.proofs.Found.{box-left, disk-left, support-left}
+use Rattle.engine.proofs.LeftList.{box-left, disk-left, support-left}
 use Rattle.engine.proofs.smallest_disk.Statement.{statement}
 use Rattle.engine.proofs.smallest_disk.Tie as tie
 

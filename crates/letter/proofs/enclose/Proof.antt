@@ -9,7 +9,7 @@ use lib.ListN.{length, take}
 use lib.Seq.{length-take-le}
 use Rattle.answers.specs.Outcome.{given}
 use Rattle.description.specs.Description.{loadOf, outcome}
-use Rattle.description.proofs.Accepted.{accepted-few}
+use Rattle.description.proofs.AcceptedTexts.{accepted-few}
 use Rattle.engine.specs.Engine.{encloseOf}
 use Rattle.letter.specs.Letter.{room}
 use Rattle.letter.proofs.Whole.{enclosure-loaded, enclosure-refused}

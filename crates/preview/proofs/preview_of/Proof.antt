@@ -9,7 +9,7 @@ use Rattle.radius.specs.Radius.{wholeRadius, outcome}
 use Rattle.validity.proofs.ValidLaws.{limits, valid-disk}
 use Rattle.radius.proofs.RadiusLaws.{radius-limit}
 use Rattle.preview.specs.Preview.{floats}
-use Rattle.preview.proofs.Answers.{given-by, refused-by}
+use Rattle.answers.proofs.OutcomeLaws.{given-by, refused-by}
 use Rattle.preview.proofs.preview_of.Statement.{statement}
 use Rattle.preview.proofs.preview_of.Tie as tie
 

@@ -27,7 +27,7 @@ use Rattle.point_lists.proofs.Rising.{insert-new, insert-length}
 use Rattle.support_tests.proofs.Numbers.{limits-small}
 use Rattle.support_span.specs.Span.{Spanned, Spans}
 use Rattle.support_span.proofs.Spans.{spanned-more}
-use Rattle.support.proofs.Found.{within-limits}
+use Rattle.support.proofs.SearchFinds.{within-limits}
 use Rattle.support.proofs.Kept.{Kept, kept-none, kept-put, kept-spanned, kept-off, kept-finds}
 use Rattle.support.proofs.collect.Statement.{statement}
 use Rattle.support.proofs.collect.Tie as tie

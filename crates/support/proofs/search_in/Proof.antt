@@ -8,7 +8,7 @@ use Rattle.geometry.specs.declared.Point.{Point}
 use Rattle.geometry.specs.Points.{points}
 use Rattle.geometry.proofs.PointRows.{points-some}
 use Rattle.support_tests.proofs.Numbers.{limits-small}
-use Rattle.support.proofs.Found.{support-some, within-limits}
+use Rattle.support.proofs.SearchFinds.{support-some, within-limits}
 use Rattle.support.proofs.search_in.Statement.{statement}
 use Rattle.support.proofs.search_in.Tie as tie
 
