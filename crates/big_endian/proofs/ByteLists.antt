@@ -41,7 +41,8 @@ put-same n v before behind =
     let front : length (before ++ field) ≡ at + n = length-append before field ∙ ap (λ (k : ℕ). at + k) (bytesOf-length n v) in
     let all : length xs ≡ at + n + length behind = length-append (before ++ field) behind ∙ ap (λ (k : ℕ). k + length behind) front in
     put-splits n v at xs (subst (λ (k : ℕ). at + n ≤ k) (sym all) (le-add-right (at + n) (length behind)))
-    ∙ ap₂ (λ (a b : List ℕ). a ++ field ++ b) (ap (take at) shape ∙ take-append-seam before (field ++ behind)) (drop-at (before ++ field) behind (at + n) front)
+    ∙ ap₂ (λ (a b : List ℕ). a ++ field ++ b) (ap (take at) shape ∙ take-append-seam before (field ++ behind))
+    (drop-at (before ++ field) behind (at + n) front)
 
 pub get-bytes : (n v : ℕ) (before behind : List ℕ) → v < 2 ^ (8 * n) → get n 0 (length before) (before ++ bytesOf n v ++ behind) ≡ v
 get-bytes n v before behind h =
@@ -59,7 +60,10 @@ module _ (xs : List ℕ) (bytes : (k : ℕ) → getD xs k 0 < 256) where
   get-high zero a at = div-one a
   get-high (suc n) a at =
       let v = get n (a * 256 + getD xs at 0) (suc at) xs in
-      ap (λ (k : ℕ). v / 2 ^ k) (eights n) ∙ sym (shr-shr v (8 * n) 8) ∙ ap (λ (k : ℕ). k / 256) (get-high n (a * 256 + getD xs at 0) (suc at)) ∙ digits-div a (bytes at)
+      ap (λ (k : ℕ). v / 2 ^ k) (eights n)
+      ∙ sym (shr-shr v (8 * n) 8)
+      ∙ ap (λ (k : ℕ). k / 256) (get-high n (a * 256 + getD xs at 0) (suc at))
+      ∙ digits-div a (bytes at)
     where
       eights : (n : ℕ) → 8 * suc n ≡ 8 * n + 8
       eights n = omega arith

@@ -14,7 +14,10 @@ use Rattle.validity.specs.Valid.{centreInBox, validDiskIn, validPointsIn, valid
 use Rattle.claims.specs.Letters.{letters, AllHold}
 
 pub letters-hold : AllHold letters
-unfolding gcd steps holds inBox allInBox before points flat outside lowestTerms diameterDisk turnedBy circle boundaryDisk tested step through run insert sorted fronted choose sameDisk supports firstOf firstSupport encloseOf listAfter least firstFrom centreInBox validDiskIn rising validPointsIn validIn
+unfolding gcd steps holds inBox allInBox before points flat
+    outside lowestTerms diameterDisk turnedBy circle boundaryDisk tested step through run
+    insert sorted fronted choose sameDisk supports firstOf firstSupport
+    encloseOf listAfter least firstFrom centreInBox validDiskIn rising validPointsIn validIn
 letters-hold = (
   record { answer = refl; order = refl; whole = refl },
   (

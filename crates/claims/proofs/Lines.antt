@@ -51,7 +51,8 @@ faultless (blank ∷ ls) n e i h is = go (λ k. faultless ls n e i k is) (List·
     go f (inl b) = let z : blank ≡ fault = sym b ∙ is in let y : _≡_ {A = ℕ} 0 1 = cc in omega arith
     go f (inr k) = f k
 faultless (fault ∷ ls) n e i h is = not-given e
-faultless (point p ∷ ls) n e i h is = go (λ k. faultless ls (suc n) (not-refused (leb 4096 n) 4 (not-refused (not (inEmBox p)) 3 e .1) .1) i k is) (List·Memᴰ·cases-cons h)
+faultless (point p ∷ ls) n e i h is =
+    go (λ k. faultless ls (suc n) (not-refused (leb 4096 n) 4 (not-refused (not (inEmBox p)) 3 e .1) .1) i k is) (List·Memᴰ·cases-cons h)
   where
     go : (List·Memᴰ i ls → ⊥) → (i ≡ point p) ⊎ List·Memᴰ i ls → ⊥
     go f (inl b) = let z : point p ≡ fault = sym b ∙ is in let y : _≡_ {A = ℕ} 0 1 = cc in omega arith

@@ -50,27 +50,104 @@ disk x y e s = record { x = pos x; y = pos y; e = e; s = s }
 abbrev pub letters : List Letter
 letters =
     -- A
-    record { list = at 0 0 ∷ []; disk = disk 0 0 1 0; support = at 0 0 ∷ []; radius = 0; tests = none; left = none }
+    record {
+      list = at 0 0 ∷ [];
+      disk = disk 0 0 1 0;
+      support = at 0 0 ∷ [];
+      radius = 0;
+      tests = none;
+      left = none;
+    }
     -- B
-    ∷ record { list = at 0 0 ∷ at 3 0 ∷ []; disk = disk 3 0 2 9; support = at 0 0 ∷ at 3 0 ∷ []; radius = 2; tests = none; left = none }
+    ∷ record {
+      list = at 0 0 ∷ at 3 0 ∷ [];
+      disk = disk 3 0 2 9;
+      support = at 0 0 ∷ at 3 0 ∷ [];
+      radius = 2;
+      tests = none;
+      left = none;
+    }
     -- C
-    ∷ record { list = at 0 0 ∷ at 4 0 ∷ []; disk = disk 2 0 1 4; support = at 0 0 ∷ at 4 0 ∷ []; radius = 2; tests = some 3; left = some (at 4 0 ∷ at 0 0 ∷ []) }
+    ∷ record {
+      list = at 0 0 ∷ at 4 0 ∷ [];
+      disk = disk 2 0 1 4;
+      support = at 0 0 ∷ at 4 0 ∷ [];
+      radius = 2;
+      tests = some 3;
+      left = some (at 4 0 ∷ at 0 0 ∷ []);
+    }
     -- D
-    ∷ record { list = at 0 0 ∷ at 10 0 ∷ at 0 10 ∷ at 10 10 ∷ []; disk = disk 5 5 1 50; support = at 0 0 ∷ at 10 10 ∷ []; radius = 8; tests = none; left = none }
+    ∷ record {
+      list = at 0 0 ∷ at 10 0 ∷ at 0 10 ∷ at 10 10 ∷ [];
+      disk = disk 5 5 1 50;
+      support = at 0 0 ∷ at 10 10 ∷ [];
+      radius = 8;
+      tests = none;
+      left = none;
+    }
     -- E
-    ∷ record { list = at 0 0 ∷ at 6 0 ∷ at 0 8 ∷ []; disk = disk 3 4 1 25; support = at 0 8 ∷ at 6 0 ∷ []; radius = 5; tests = none; left = none }
+    ∷ record {
+      list = at 0 0 ∷ at 6 0 ∷ at 0 8 ∷ [];
+      disk = disk 3 4 1 25;
+      support = at 0 8 ∷ at 6 0 ∷ [];
+      radius = 5;
+      tests = none;
+      left = none;
+    }
     -- F
-    ∷ record { list = at 0 0 ∷ at 4 0 ∷ at 2 3 ∷ []; disk = disk 12 5 6 169; support = at 0 0 ∷ at 2 3 ∷ at 4 0 ∷ []; radius = 3; tests = some 7; left = none }
+    ∷ record {
+      list = at 0 0 ∷ at 4 0 ∷ at 2 3 ∷ [];
+      disk = disk 12 5 6 169;
+      support = at 0 0 ∷ at 2 3 ∷ at 4 0 ∷ [];
+      radius = 3;
+      tests = some 7;
+      left = none;
+    }
     -- G
-    ∷ record { list = at 0 0 ∷ at 10 0 ∷ at 5 1 ∷ []; disk = disk 5 0 1 25; support = at 0 0 ∷ at 10 0 ∷ []; radius = 5; tests = none; left = none }
+    ∷ record {
+      list = at 0 0 ∷ at 10 0 ∷ at 5 1 ∷ [];
+      disk = disk 5 0 1 25;
+      support = at 0 0 ∷ at 10 0 ∷ [];
+      radius = 5;
+      tests = none;
+      left = none;
+    }
     -- H
-    ∷ record { list = at 7 7 ∷ at 7 7 ∷ at 7 7 ∷ []; disk = disk 7 7 1 0; support = at 7 7 ∷ []; radius = 0; tests = none; left = none }
+    ∷ record {
+      list = at 7 7 ∷ at 7 7 ∷ at 7 7 ∷ [];
+      disk = disk 7 7 1 0;
+      support = at 7 7 ∷ [];
+      radius = 0;
+      tests = none;
+      left = none;
+    }
     -- I
-    ∷ record { list = at 0 0 ∷ at 1 1 ∷ at 2 2 ∷ []; disk = disk 1 1 1 2; support = at 0 0 ∷ at 2 2 ∷ []; radius = 2; tests = none; left = none }
+    ∷ record {
+      list = at 0 0 ∷ at 1 1 ∷ at 2 2 ∷ [];
+      disk = disk 1 1 1 2;
+      support = at 0 0 ∷ at 2 2 ∷ [];
+      radius = 2;
+      tests = none;
+      left = none;
+    }
     -- J
-    ∷ record { list = at 0 0 ∷ at 2 0 ∷ at 4 0 ∷ []; disk = disk 2 0 1 4; support = at 0 0 ∷ at 4 0 ∷ []; radius = 2; tests = some 7; left = some (at 4 0 ∷ at 0 0 ∷ at 2 0 ∷ []) }
+    ∷ record {
+      list = at 0 0 ∷ at 2 0 ∷ at 4 0 ∷ [];
+      disk = disk 2 0 1 4;
+      support = at 0 0 ∷ at 4 0 ∷ [];
+      radius = 2;
+      tests = some 7;
+      left = some (at 4 0 ∷ at 0 0 ∷ at 2 0 ∷ []);
+    }
     -- K
-    ∷ record { list = below 0 249 ∷ below 1000 249 ∷ at 0 750 ∷ at 1000 750 ∷ []; disk = disk 500 250 1 500000; support = below 0 249 ∷ at 1000 750 ∷ []; radius = 708; tests = none; left = none }
+    ∷ record {
+      list = below 0 249 ∷ below 1000 249 ∷ at 0 750 ∷ at 1000 750 ∷ [];
+      disk = disk 500 250 1 500000;
+      support = below 0 249 ∷ at 1000 750 ∷ [];
+      radius = 708;
+      tests = none;
+      left = none;
+    }
     ∷ []
 
 abbrev pub AllHold : List Letter → Type 0

@@ -77,7 +77,9 @@ module _ (text : List ℕ) (list : List ℤ) (n : ℕ) (accepted : loadOf text l
 
   pub accepted-short : length text ≤ 65535
   unfolding loadOf
-  accepted-short = ltb-false 65535 (length text) (not-refused (ltb 65535 (length text)) 1 {rest = byLine 0 (linesRead text)} (not-refused (ltb (length list) 8192) 8 {rest = by-text} accepted .1) .0)
+  accepted-short =
+      ltb-false 65535 (length text)
+      (not-refused (ltb 65535 (length text)) 1 {rest = byLine 0 (linesRead text)} (not-refused (ltb (length list) 8192) 8 {rest = by-text} accepted .1) .0)
 
   all-passed : Passed 0 n (linesRead text)
   all-passed = passed-lines (linesRead text) 0 n (omega arith) (sym (load-judged text list accepted-room accepted-short) ∙ accepted)
@@ -98,4 +100,5 @@ module _ (text : List ℕ) (list : List ℤ) (n : ℕ) (accepted : loadOf text l
   front-length = length-flat (named text) ∙ ap (λ (k : ℕ). 2 * k) (sym accepted-count)
 
   pub accepted-front : take (2 * n) (listAfter text list) ≡ flat (named text)
-  accepted-front = ap (take (2 * n)) (after-given text list n accepted) ∙ take-at (flat (named text)) (drop (length (flat (named text))) list) (2 * n) front-length
+  accepted-front =
+      ap (take (2 * n)) (after-given text list n accepted) ∙ take-at (flat (named text)) (drop (length (flat (named text))) list) (2 * n) front-length

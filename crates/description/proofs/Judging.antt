@@ -37,7 +37,8 @@ use Rattle.lines.proofs.Words.{lines-first}
 read-some : (b : ℕ) (bs : List ℕ) → linesRead (b ∷ bs) ≡ lineOf (firstLine (b ∷ bs)) ∷ linesRead (afterLine (b ∷ bs))
 read-some b bs = rw (lines-first b bs)
 
-from-shorter-step : (t : Bool) (stop : ℕ → Bool) (b : ℕ) (bs : List ℕ) → stop b ≡ t → length (from stop bs) ≤ length bs → length (from stop (b ∷ bs)) ≤ suc (length bs)
+from-shorter-step : (t : Bool) (stop : ℕ → Bool) (b : ℕ) (bs : List ℕ) → stop b ≡ t → length (from stop bs) ≤ length bs
+    → length (from stop (b ∷ bs)) ≤ suc (length bs)
 unfolding from
 from-shorter-step true stop b bs h ih = rw h (omega arith)
 from-shorter-step false stop b bs h ih = rw h (omega arith)
@@ -53,7 +54,8 @@ module _ (text : List ℕ) (at : ℕ) (some-left : at < length text) where
 
   pub next-further : (next : ℕ) → Reaches text next (afterLine (drop at text)) → length text - next < length text - at
   next-further next r =
-      let left : length text - next ≡ length (from isFeed (drop at text)) - 1 = sym (length-drop next text) ∙ ap length (r .before) ∙ length-drop 1 (from isFeed (drop at text)) in
+      let left : length text - next ≡ length (from isFeed (drop at text)) - 1 =
+      sym (length-drop next text) ∙ ap length (r .before) ∙ length-drop 1 (from isFeed (drop at text)) in
       omega (arith, left, from-shorter isFeed (drop at text), length-drop at text, some-left)
 
   -- ---- where it decides
@@ -99,10 +101,12 @@ module _ (text : List ℕ) (found₀ found : List ℤ) (at n : ℕ) (j : Judging
 
   pub judging-kept : length text ≤ at → take (2 * n) found ≡ flat (named text)
   unfolding pointsOn flat
-  judging-kept h = sym (append-nil (take (2 * n) found)) ∙ ap (λ (ls : List Line). take (2 * n) found ++ flat (pointsOn ls)) (sym (nothing-read text at h)) ∙ j .kept
+  judging-kept h =
+      sym (append-nil (take (2 * n) found)) ∙ ap (λ (ls : List Line). take (2 * n) found ++ flat (pointsOn ls)) (sym (nothing-read text at h)) ∙ j .kept
 
   module _ (some-left : at < length text) (next : ℕ) where
-    lines-on : (l : Line) → lineOf (firstLine (drop at text)) ≡ l → Reaches text next (afterLine (drop at text)) → linesRead (drop at text) ≡ l ∷ linesRead (drop next text)
+    lines-on : (l : Line) → lineOf (firstLine (drop at text)) ≡ l → Reaches text next (afterLine (drop at text))
+        → linesRead (drop at text) ≡ l ∷ linesRead (drop next text)
     lines-on l h r = read-first text at some-left ∙ ap₂ (λ (a : Line) (ls : List Line). a ∷ ls) h (ap linesRead (sym (r .before)))
 
     pub judging-pass : StepAt text n (drop at text) (Step.Pass next) → Judging text found₀ found next n
@@ -122,7 +126,8 @@ module _ (text : List ℕ) (found₀ found : List ℤ) (at n : ℕ) (j : Judging
       inside = s .1 .0 .inside;
       few = omega (arith, s .1 .1 .1);
       room = length-put found n p ∙ j .room;
-      verdict = sym (verdict-on n p (linesRead (drop next text)) (s .1 .1 .0) (s .1 .1 .1)) ∙ sym (ap (byLine n) (lines-on (point p) (s .0) (s .1 .0))) ∙ j .verdict;
+      verdict =
+          sym (verdict-on n p (linesRead (drop next text)) (s .1 .1 .0) (s .1 .1 .1)) ∙ sym (ap (byLine n) (lines-on (point p) (s .0) (s .1 .0))) ∙ j .verdict;
       kept =
           ap (λ (l : List ℤ). l ++ flat (named (drop next text))) (take-put found n p (omega (arith, j .room, s .1 .1 .1)))
           ∙ append-assoc (take (2 * n) found) (p .x ∷ p .y ∷ []) (flat (named (drop next text)))

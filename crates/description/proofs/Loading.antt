@@ -37,6 +37,7 @@ module _ (text : List ℕ) (list : List ℤ) where
   unfolding listAfter
   after-given n h = rw h
 
-pub front-pasted : (list found : List ℤ) (ps : List Point) (n : ℕ) → n ≤ length found → take n found ≡ flat ps → paste list 0 found n ≡ flat ps ++ drop (length (flat ps)) list
+pub front-pasted : (list found : List ℤ) (ps : List Point) (n : ℕ) → n ≤ length found → take n found ≡ flat ps
+    → paste list 0 found n ≡ flat ps ++ drop (length (flat ps)) list
 front-pasted list found ps n h e =
     ap₂ (λ (front : List ℤ) (k : ℕ). front ++ drop k list) e (zero-add n ∙ sym (length-take-le n found h) ∙ ap length e)

@@ -64,7 +64,8 @@ module _ (l : Limits) (p : Point) (h : inBox l p ≡ true) where
   }
 
   pub point-size : (natAbs (p .x) ≤ largest l) × (natAbs (p .y) ≤ largest l)
-  point-size = (between-most (l .left) (p .x) (l .right) (left-size l) (right-size l) in-x, between-most (l .foot) (p .y) (l .top) (foot-size l) (top-size l) in-y)
+  point-size =
+      (between-most (l .left) (p .x) (l .right) (left-size l) (right-size l) in-x, between-most (l .foot) (p .y) (l .top) (foot-size l) (top-size l) in-y)
 
 pub box-members : (P : List Point) → allInEmBox P ≡ true → (p : Point) → List·Memᴰ p P → T (inEmBox p)
 unfolding allInBox

@@ -66,7 +66,8 @@ firstPoints-whole zero (x ∷ []) h k = refl
 firstPoints-whole zero (x ∷ y ∷ l) h k = absurd (omega arith)
 firstPoints-whole (suc n) [] h k = absurd (omega arith)
 firstPoints-whole (suc n) (x ∷ []) h k = absurd (omega arith)
-firstPoints-whole (suc n) (x ∷ y ∷ l) h k = firstPoints-cons n x y l ∙ ap {B = List Point} (λ qs. record { x = x; y = y } ∷ qs) (firstPoints-whole n l (omega arith) (omega arith))
+firstPoints-whole (suc n) (x ∷ y ∷ l) h k =
+    firstPoints-cons n x y l ∙ ap {B = List Point} (λ qs. record { x = x; y = y } ∷ qs) (firstPoints-whole n l (omega arith) (omega arith))
 
 pub firstPoints-all : (n : ℕ) (l : List ℤ) → length l ≡ 2 * n → firstPoints n l ≡ points l
 firstPoints-all n l e = firstPoints-whole n l (omega arith) (omega arith)
@@ -140,7 +141,8 @@ module _ (ps : List Point) (l : List ℤ) (i : ℕ) (size : length ps ≡ i) whe
       ∙ getD-drop (2 * i) l k (pos 0)
 
   past-zero : getD (flat ps ++ drop (2 * i) l) (2 * i) (pos 0) ≡ getD l (2 * i) (pos 0)
-  past-zero = ap (λ (n : ℕ). getD (flat ps ++ drop (2 * i) l) n (pos 0)) (sym (add-zero (2 * i))) ∙ past 0 ∙ ap (λ (n : ℕ). getD l n (pos 0)) (add-zero (2 * i))
+  past-zero =
+      ap (λ (n : ℕ). getD (flat ps ++ drop (2 * i) l) n (pos 0)) (sym (add-zero (2 * i))) ∙ past 0 ∙ ap (λ (n : ℕ). getD l n (pos 0)) (add-zero (2 * i))
 
   pub pointAt-past : pointAt (flat ps ++ drop (2 * i) l) i ≡ pointAt l i
   pointAt-past = λ j. record { x = past-zero j; y = past 1 j }

@@ -37,7 +37,9 @@ pub points-from : (i : ℕ) (l : List ℤ) → 2 * i + 2 ≤ length l → drop i
 unfolding points
 points-from i l h =
     let next : 2 * (i + 1) ≡ 2 * i + 2 = omega arith in
-    drop-points i l ∙ ap points (two-from l (2 * i) h) ∙ ap {B = List Point} (λ Q. pointAt l i ∷ Q) (sym (drop-points (i + 1) l ∙ ap (λ (k : ℕ). points (drop k l)) next))
+    drop-points i l
+    ∙ ap points (two-from l (2 * i) h)
+    ∙ ap {B = List Point} (λ Q. pointAt l i ∷ Q) (sym (drop-points (i + 1) l ∙ ap (λ (k : ℕ). points (drop k l)) next))
 
 pub points-some : (l : List ℤ) → 2 ≤ length l → 1 ≤ length (points l)
 unfolding points
@@ -68,7 +70,8 @@ firstPoints-take zero n l h fits = refl
 firstPoints-take (suc k) zero l h fits = absurd (omega arith)
 firstPoints-take (suc k) (suc n) [] h fits = absurd (omega arith)
 firstPoints-take (suc k) (suc n) (x ∷ []) h fits = absurd (omega arith)
-firstPoints-take (suc k) (suc n) (x ∷ y ∷ l) h fits = rw (two-suc k, two-suc n) (ap {B = List Point} (λ Q. record { x = x; y = y } ∷ Q) (firstPoints-take k n l (omega arith) (omega arith)))
+firstPoints-take (suc k) (suc n) (x ∷ y ∷ l) h fits =
+    rw (two-suc k, two-suc n) (ap {B = List Point} (λ Q. record { x = x; y = y } ∷ Q) (firstPoints-take k n l (omega arith) (omega arith)))
 
 pub drop-next : (i : ℕ) (l m : List ℤ) → drop (2 * i) l ≡ drop (2 * i) m → drop (2 * (i + 1)) l ≡ drop (2 * (i + 1)) m
 drop-next i l m e =

@@ -103,7 +103,8 @@ split (pos a) (pos b) t = (b - a, ap pos (whole (leb→le a b t)))
     whole : a ≤ b → b ≡ a + (b - a)
     whole h = omega arith
 split (pos a) (negsuc b) t = absurd t
-split (negsuc a) (pos b) t = (suc a + b, sym (sym (+-assoc (negsuc a) (pos (suc a)) (pos b)) ∙ ap (λ (x : ℤ). x +ℤ pos b) (neg-+ (pos (suc a))) ∙ zero-+ (pos b)))
+split (negsuc a) (pos b) t =
+    (suc a + b, sym (sym (+-assoc (negsuc a) (pos (suc a)) (pos b)) ∙ ap (λ (x : ℤ). x +ℤ pos b) (neg-+ (pos (suc a))) ∙ zero-+ (pos b)))
 split (negsuc a) (negsuc b) t = (a - b, go (a - b) (whole (leb→le b a t)))
   where
     whole : b ≤ a → a ≡ b + (a - b)
@@ -114,7 +115,13 @@ split (negsuc a) (negsuc b) t = (a - b, go (a - b) (whole (leb→le b a t)))
       where
         none : a ≡ b + 0 → b ≡ a
         none e = omega arith
-    go (suc k) e = sym (ap (λ (n : ℕ). negsuc n +ℤ pos (suc k)) (some e) ∙ +-assoc (negsuc b) (negsuc k) (pos (suc k)) ∙ ap (λ (x : ℤ). negsuc b +ℤ x) (neg-+ (pos (suc k))) ∙ +-zero (negsuc b))
+    go (suc k) e =
+        sym (
+        ap (λ (n : ℕ). negsuc n +ℤ pos (suc k)) (some e)
+        ∙ +-assoc (negsuc b) (negsuc k) (pos (suc k))
+        ∙ ap (λ (x : ℤ). negsuc b +ℤ x) (neg-+ (pos (suc k)))
+        ∙ +-zero (negsuc b)
+        )
       where
         some : a ≡ b + suc k → a ≡ suc (b + k)
         some e = omega arith

@@ -40,7 +40,8 @@ lines-first b bs = pieces-first 10 b bs
 
 -- ---- words
 
-words-spaces-step : (t : Bool) (b : ℕ) (bs : List ℕ) → isSpace b ≡ t → wordsOf (firstLine bs) ≡ wordsOf (firstLine (afterSpaces bs)) → wordsOf (firstLine (b ∷ bs)) ≡ wordsOf (firstLine (afterSpaces (b ∷ bs)))
+words-spaces-step : (t : Bool) (b : ℕ) (bs : List ℕ) → isSpace b ≡ t → wordsOf (firstLine bs) ≡ wordsOf (firstLine (afterSpaces bs))
+    → wordsOf (firstLine (b ∷ bs)) ≡ wordsOf (firstLine (afterSpaces (b ∷ bs)))
 unfolding pieces joinPiece nonEmpty upTo from
 words-spaces-step true b bs h ih = rw (eqb-true b 32 h) ih
 words-spaces-step false b bs h ih = rw h
@@ -55,7 +56,8 @@ unfolding pieces nonEmpty
 words-none bs h = rw (up-to-here isFeed bs h)
 
 -- a word of the first line is a word of the bytes
-word-of-line-step : (s f : Bool) (b : ℕ) (bs : List ℕ) → isSpace b ≡ s → isFeed b ≡ f → upTo isSpace (firstLine bs) ≡ word bs → upTo isSpace (firstLine (b ∷ bs)) ≡ word (b ∷ bs)
+word-of-line-step : (s f : Bool) (b : ℕ) (bs : List ℕ) → isSpace b ≡ s → isFeed b ≡ f → upTo isSpace (firstLine bs) ≡ word bs
+    → upTo isSpace (firstLine (b ∷ bs)) ≡ word (b ∷ bs)
 unfolding upTo
 word-of-line-step true true b bs h k ih = rw (h, k)
 word-of-line-step true false b bs h k ih = rw (k, h)
@@ -67,7 +69,8 @@ unfolding upTo
 word-of-line [] = refl
 word-of-line (b ∷ bs) = word-of-line-step (isSpace b) (isFeed b) b bs refl refl (word-of-line bs)
 
-rest-of-line-step : (s f : Bool) (b : ℕ) (bs : List ℕ) → isSpace b ≡ s → isFeed b ≡ f → from isSpace (firstLine bs) ≡ firstLine (afterWord bs) → from isSpace (firstLine (b ∷ bs)) ≡ firstLine (afterWord (b ∷ bs))
+rest-of-line-step : (s f : Bool) (b : ℕ) (bs : List ℕ) → isSpace b ≡ s → isFeed b ≡ f → from isSpace (firstLine bs) ≡ firstLine (afterWord bs)
+    → from isSpace (firstLine (b ∷ bs)) ≡ firstLine (afterWord (b ∷ bs))
 unfolding upTo from
 rest-of-line-step true true b bs h k ih = rw (k, h, k)
 rest-of-line-step true false b bs h k ih = rw (k, h, k)
@@ -80,7 +83,8 @@ rest-of-line [] = refl
 rest-of-line (b ∷ bs) = rest-of-line-step (isSpace b) (isFeed b) b bs refl refl (rest-of-line bs)
 
 -- a space behind a word parts it from the others, and is no word
-words-behind-step : (t : Bool) (b : ℕ) (l : List ℕ) → isSpace b ≡ t → wordsOf (drop 1 (from isSpace l)) ≡ wordsOf (from isSpace l) → wordsOf (drop 1 (from isSpace (b ∷ l))) ≡ wordsOf (from isSpace (b ∷ l))
+words-behind-step : (t : Bool) (b : ℕ) (l : List ℕ) → isSpace b ≡ t → wordsOf (drop 1 (from isSpace l)) ≡ wordsOf (from isSpace l)
+    → wordsOf (drop 1 (from isSpace (b ∷ l))) ≡ wordsOf (from isSpace (b ∷ l))
 unfolding pieces joinPiece nonEmpty from
 words-behind-step true b l h ih = rw (h, h)
 words-behind-step false b l h ih = rw h ih
@@ -98,7 +102,10 @@ some-word (b ∷ w) ws h = refl
 line-words : (l : List ℕ) → (upTo isSpace l ≡ [] → ⊥) → wordsOf l ≡ upTo isSpace l ∷ wordsOf (from isSpace l)
 unfolding upTo
 line-words [] h = absurd (h refl)
-line-words (b ∷ l) h = ap nonEmpty (pieces-first 32 b l) ∙ some-word (upTo isSpace (b ∷ l)) (pieces 32 (drop 1 (from isSpace (b ∷ l)))) h ∙ ap (λ (ws : List (List ℕ)). upTo isSpace (b ∷ l) ∷ ws) (words-behind (b ∷ l))
+line-words (b ∷ l) h =
+    ap nonEmpty (pieces-first 32 b l)
+    ∙ some-word (upTo isSpace (b ∷ l)) (pieces 32 (drop 1 (from isSpace (b ∷ l)))) h
+    ∙ ap (λ (ws : List (List ℕ)). upTo isSpace (b ∷ l) ∷ ws) (words-behind (b ∷ l))
 
 pub words-first : (bs : List ℕ) → (word bs ≡ [] → ⊥) → wordsOf (firstLine bs) ≡ word bs ∷ wordsOf (firstLine (afterWord bs))
 words-first bs h = rw (word-of-line bs, rest-of-line bs) at (line-words (firstLine bs) (λ e. h (sym (word-of-line bs) ∙ e)))
@@ -106,7 +113,8 @@ words-first bs h = rw (word-of-line bs, rest-of-line bs) at (line-words (firstLi
 -- ---- the end of the line
 
 module _ (stop : ℕ → Bool) (sooner : (b : ℕ) → stop b ≡ false → isFeed b ≡ false) where
-  feed-step : (t : Bool) (b : ℕ) (bs : List ℕ) → stop b ≡ t → from isFeed bs ≡ from isFeed (from stop bs) → from isFeed (b ∷ bs) ≡ from isFeed (from stop (b ∷ bs))
+  feed-step : (t : Bool) (b : ℕ) (bs : List ℕ) → stop b ≡ t → from isFeed bs ≡ from isFeed (from stop bs)
+      → from isFeed (b ∷ bs) ≡ from isFeed (from stop (b ∷ bs))
   unfolding from
   feed-step true b bs h ih = rw h
   feed-step false b bs h ih = rw (h, sooner b h) ih

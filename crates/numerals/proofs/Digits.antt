@@ -55,7 +55,8 @@ none-if false q r a h = refl
 
 pub more-other : (k v b : ℕ) (ds : List ℕ) → isDigit b ≡ false → more k v (b ∷ ds) ≡ none
 unfolding more allDigits
-more-other k v b ds h = none-if (leb 1 (k + suc (length ds))) (leb (k + suc (length ds)) 4) (isDigit b && allDigits ds) (decimal v (b ∷ ds)) (sym (stop (allDigits ds) h))
+more-other k v b ds h =
+    none-if (leb 1 (k + suc (length ds))) (leb (k + suc (length ds)) 4) (isDigit b && allDigits ds) (decimal v (b ∷ ds)) (sym (stop (allDigits ds) h))
 
 -- ---- the sign
 

@@ -69,7 +69,9 @@ module _ (text : List ℕ) (at : ℕ) where
 
   module _ {v i : ℕ} (r : Reading text at v i) where
     more-here : starts isDigit (drop i text) ≡ true → more (i - at) v (getD text i 0 ∷ word (drop (i + 1) text)) ≡ digits (word (drop at text))
-    more-here h = ap (more (i - at) v) (sym (up-to-next text i endsWord (inside text i isDigit h) (digit-inside (getD text i 0) (byte-passes text i isDigit h)))) ∙ r .value
+    more-here h =
+        ap (more (i - at) v) (sym (up-to-next text i endsWord (inside text i isDigit h) (digit-inside (getD text i 0) (byte-passes text i isDigit h))))
+        ∙ r .value
 
     pub reading-digit : (d : ℕ) → d ≡ getD text i 0 - 48 → starts isDigit (drop i text) ≡ true → (i - at ≡ 4 → ⊥) → Reading text at (10 * v + d) (i + 1)
     reading-digit d is h n =
@@ -98,7 +100,8 @@ module _ (text : List ℕ) (at : ℕ) where
     pub reading-bad : starts isDigit (drop i text) ≡ false → ends endsWord (drop i text) ≡ false → digits (word (drop at text)) ≡ none
     reading-bad h e = sym (r .value) ∙ bad (i - at) v (drop i text) h e
 
-    pub reading-end : (i ≡ at → ⊥) → ends endsWord (drop i text) ≡ true → (digits (word (drop at text)) ≡ some v) × (Reaches text i (afterWord (drop at text)) × (v < 10000))
+    pub reading-end : (i ≡ at → ⊥) → ends endsWord (drop i text) ≡ true
+        → (digits (word (drop at text)) ≡ some v) × (Reaches text i (afterWord (drop at text)) × (v < 10000))
     reading-end n e =
         let some-read : 1 ≤ i - at = omega (arith, r .behind, n) in (
           sym (r .value) ∙ stopped (i - at) v (drop i text) e ∙ more-end (i - at) v some-read (r .few),
@@ -115,7 +118,9 @@ module _ (text : List ℕ) (at : ℕ) (h : starts (isByte 45) (drop at text) ≡
   minus-there = eqb-true (getD text at 0) 45 (byte-passes text at (isByte 45) h)
 
   pub minus-value : numeral (word (drop at text)) ≡ Option·map (λ (v : ℕ). negℤ (pos v)) (digits (word (drop (at + 1) text)))
-  minus-value = numeral-minus (drop at text) h ∙ ap (λ (bs : List ℕ). Option·map (λ (v : ℕ). negℤ (pos v)) (digits (word (drop 1 bs)))) (drop-at text at (inside text at (isByte 45) h))
+  minus-value =
+      numeral-minus (drop at text) h
+      ∙ ap (λ (bs : List ℕ). Option·map (λ (v : ℕ). negℤ (pos v)) (digits (word (drop 1 bs)))) (drop-at text at (inside text at (isByte 45) h))
 
   pub minus-ahead : afterWord (drop (at + 1) text) ≡ afterWord (drop at text)
   minus-ahead = from-next text at endsWord (inside text at (isByte 45) h) (ap endsWord minus-there)
@@ -123,7 +128,8 @@ module _ (text : List ℕ) (at : ℕ) (h : starts (isByte 45) (drop at text) ≡
 -- ---- a number from its digits: those at the bytes ds, with the sign that stands at the bytes bs
 
 module _ (text bs ds : List ℕ) (sign : ℕ → ℤ) (by-digits : numeral (word bs) ≡ Option·map sign (digits (word ds))) where
-  pub signed-value : {v next : ℕ} {z : ℤ} → z ≡ sign v → afterWord ds ≡ afterWord bs → NaturalAt text ds (Natural.Value v next) → NumberAt text bs (Number.Value z next)
+  pub signed-value : {v next : ℕ} {z : ℤ} → z ≡ sign v → afterWord ds ≡ afterWord bs → NaturalAt text ds (Natural.Value v next)
+      → NumberAt text bs (Number.Value z next)
   signed-value e ahead n = (by-digits ∙ ap (Option·map sign) (n .0) ∙ ap some (sym e), record { inside = n .1 .0 .inside; before = n .1 .0 .before ∙ ahead })
 
   pub signed-none : NaturalAt text ds Natural.Nothing → NumberAt text bs Number.Nothing

@@ -76,7 +76,8 @@ divided (fin t m k) (fin u n d) s a e p q h =
     let some : eqb n 0 ≡ false = ne-eqb n 0 (no-zero n (up d) above) in
     ap (λ (b : Bool). cond b (cond (eqb m 0) nan (inf (unlike t u))) (round binary64 (unlike t u) (m * up k * down d) (n * up d * down k))) some
     ∙ ap (λ (w : Bool). round binary64 w (m * up k * down d) (n * up d * down k)) (ap (unlike t) (q .0) ∙ like t ∙ p .0)
-    ∙ round-same binary64 s (m * up k * down d) (n * up d * down k) a e (mul-pos above (down-pos k)) h (cross m n (up k) (down k) (up d) (down d) a e (p .1) (q .1))
+    ∙ round-same binary64 s (m * up k * down d) (n * up d * down k) a e (mul-pos above (down-pos k)) h
+    (cross m n (up k) (down k) (up d) (down d) a e (p .1) (q .1))
 
 pub quotient-rounds : (z : ℤ) (e : ℕ) → natAbs z ≤ 2 ^ 53 → 0 < e → e ≤ 2 ^ 53 → quotient z e ≡ round binary64 (negative z) (natAbs z) e
 quotient-rounds z e h p k = divided (ofInt binary64 z) (ofInt binary64 (pos e)) (negative z) (natAbs z) e (exact z h) (exact (pos e) k) p

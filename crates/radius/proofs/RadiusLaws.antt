@@ -34,7 +34,8 @@ reaches-less d {r} {q} l h = go (reaches d r) refl
 
 pub reaches-limit : (d : Disk) → DiskBounds em d → reaches d maxRadius ≡ true
 reaches-limit d k =
-    le-leb (d .s) (maxRadius * maxRadius * (d .e * d .e)) (le-trans (k .s-small) (mul-le-mul-right (d .e * d .e) (lit≤ {m = em .square} {n = maxRadius * maxRadius} tt)))
+    le-leb (d .s) (maxRadius * maxRadius * (d .e * d .e))
+    (le-trans (k .s-small) (mul-le-mul-right (d .e * d .e) (lit≤ {m = em .square} {n = maxRadius * maxRadius} tt)))
 
 -- S itself reaches
 le-times : (n : ℕ) {k : ℕ} → 1 ≤ k → n ≤ n * k
@@ -53,4 +54,5 @@ radius-only d h i = only-least i (radius-is-least d h)
 
 pub radius-limit : (d : Disk) → DiskBounds em d → wholeRadius d ≤ maxRadius
 radius-limit d k =
-    le-of-suc-le-suc (lt-of-not-le (λ (h : suc maxRadius ≤ wholeRadius d). true≢false (sym (reaches-limit d k) ∙ radius-is-least d (k .e-some) .first maxRadius h)))
+    le-of-suc-le-suc
+    (lt-of-not-le (λ (h : suc maxRadius ≤ wholeRadius d). true≢false (sym (reaches-limit d k) ∙ radius-is-least d (k .e-some) .first maxRadius h)))

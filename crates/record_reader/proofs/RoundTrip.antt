@@ -66,7 +66,8 @@ module _ (d : Disk) (k : DiskBounds em d) where
       let last = inEmBox c && true in
       let others = inEmBox b && last in
       let later = rest (inEmBox a) others m in
-      read-three a b c (small a (first (inEmBox a) others m)) (small b (first (inEmBox b) last later)) (small c (first (inEmBox c) true (rest (inEmBox b) last later)))
+      read-three a b c (small a (first (inEmBox a) others m)) (small b (first (inEmBox b) last later))
+      (small c (first (inEmBox c) true (rest (inEmBox b) last later)))
       (first (before b c) true (rest (before a b) (before b c && true) r))
   read-points (a ∷ b ∷ c ∷ p ∷ ps) n r m = absurd (not-four a b c p ps n)
 
@@ -83,7 +84,8 @@ module _ (bs : List ℕ) (bytes : (k : ℕ) → getD bs k 0 < 256) where
   rewritten : length bs ≡ recordLength → recordBytes (diskIn bs) (pointsIn bs) ≡ bs
   unfolding recordBytes
   rewritten e =
-      ap (λ (qs : List Point). diskBytes (diskIn bs) ++ pointsBytes qs) (made-meant (pointIn firstAt bs) (pointIn secondAt bs) (pointIn thirdAt bs)) ∙ fields-again bs bytes e
+      ap (λ (qs : List Point). diskBytes (diskIn bs) ++ pointsBytes qs) (made-meant (pointIn firstAt bs) (pointIn secondAt bs) (pointIn thirdAt bs))
+      ∙ fields-again bs bytes e
 
   pub written-again : (d : Disk) (ps : List Point) → readOf bs ≡ given (d, ps) → (valid d ps ≡ true) × (recordBytes d ps ≡ bs)
   written-again d ps h =

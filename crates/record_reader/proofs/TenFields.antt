@@ -102,8 +102,13 @@ pub record ReadsAs (bs : List ℕ) (d : Disk) (a b c : Point) : Type 0 where
   pub second : pointIn secondAt bs ≡ b
   pub third : pointIn thirdAt bs ≡ c
 
-point-read : (p : Point) (at : ℕ) (bs : List ℕ) → TwoBytes p → get coordinateWidth 0 at bs ≡ twos coordinateWidth (p .x) → get coordinateWidth 0 (at + coordinateWidth) bs ≡ twos coordinateWidth (p .y) → pointIn at bs ≡ p
-point-read p at bs s x y = λ i. record { x = (ap (back coordinateWidth) x ∙ back-twos coordinateWidth (p .x) (s .x-small)) i; y = (ap (back coordinateWidth) y ∙ back-twos coordinateWidth (p .y) (s .y-small)) i }
+point-read : (p : Point) (at : ℕ) (bs : List ℕ) → TwoBytes p → get coordinateWidth 0 at bs ≡ twos coordinateWidth (p .x)
+    → get coordinateWidth 0 (at + coordinateWidth) bs ≡ twos coordinateWidth (p .y)
+    → pointIn at bs ≡ p
+point-read p at bs s x y = λ i. record {
+  x = (ap (back coordinateWidth) x ∙ back-twos coordinateWidth (p .x) (s .x-small)) i;
+  y = (ap (back coordinateWidth) y ∙ back-twos coordinateWidth (p .y) (s .y-small)) i;
+}
 
 pub fields-read : (d : Disk) → DiskBounds em d → (a b c : Point) → TwoBytes a → TwoBytes b → TwoBytes c
     → ReadsAs (diskBytes d ++ pointsBytes (a ∷ b ∷ c ∷ [])) d a b c
@@ -145,7 +150,16 @@ module _ (bs : List ℕ) (bytes : (k : ℕ) → getD bs k 0 < 256) where
             refl,
             (
               refl,
-              (coordinate-again firstAt, (coordinate-again (firstAt + coordinateWidth), (coordinate-again secondAt, (coordinate-again (secondAt + coordinateWidth), (coordinate-again thirdAt, (coordinate-again (thirdAt + coordinateWidth), tt)))))),
+              (
+                coordinate-again firstAt,
+                (
+                  coordinate-again (firstAt + coordinateWidth),
+                  (
+                    coordinate-again secondAt,
+                    (coordinate-again (secondAt + coordinateWidth), (coordinate-again thirdAt, (coordinate-again (thirdAt + coordinateWidth), tt))),
+                  ),
+                ),
+              ),
             ),
           ),
         ),

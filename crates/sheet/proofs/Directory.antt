@@ -32,7 +32,9 @@ module _ (s : List ℕ) (l end i n : ℕ) where
   follow-done h = ap (follow end l) (pairs-done s i n h)
 
   -- the rule of pair i and those behind it
-  step : i < n → follow end l (pairs s i (n - i)) ≡ leb end (pair s i .start) && (leb (pair s i .start + pair s i .len) l && follow (pair s i .start + pair s i .len) l (pairs s (i + 1) (n - (i + 1))))
+  step : i < n
+      → follow end l (pairs s i (n - i))
+      ≡ leb end (pair s i .start) && (leb (pair s i .start + pair s i .len) l && follow (pair s i .start + pair s i .len) l (pairs s (i + 1) (n - (i + 1))))
   unfolding follow
   step h = ap (follow end l) (pairs-step s i n h)
 
@@ -42,5 +44,6 @@ module _ (s : List ℕ) (l end i n : ℕ) where
   pub follow-late : i < n → end ≤ pair s i .start → l < pair s i .start + pair s i .len → follow end l (pairs s i (n - i)) ≡ false
   follow-late h k m = step h ∙ simp (le-leb end (pair s i .start) k, lt-leb (pair s i .start + pair s i .len) l m)
 
-  pub follow-next : i < n → end ≤ pair s i .start → pair s i .start + pair s i .len ≤ l → follow (pair s i .start + pair s i .len) l (pairs s (i + 1) (n - (i + 1))) ≡ follow end l (pairs s i (n - i))
+  pub follow-next : i < n → end ≤ pair s i .start → pair s i .start + pair s i .len ≤ l
+      → follow (pair s i .start + pair s i .len) l (pairs s (i + 1) (n - (i + 1))) ≡ follow end l (pairs s i (n - i))
   follow-next h k m = sym (step h ∙ simp (le-leb end (pair s i .start) k, le-leb (pair s i .start + pair s i .len) l m))

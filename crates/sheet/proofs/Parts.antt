@@ -41,7 +41,8 @@ module _ (end l : ℕ) (p : Place) (ps : List Place) (h : follow end l (p ∷ ps
   follow-rest = rest (leb (p .start + p .len) l) (follow (p .start + p .len) l ps) behind-start
 
 -- pair i + j, of n pairs from pair i on
-pub follow-pair : (s : List ℕ) (l end i n j : ℕ) → follow end l (pairs s i n) ≡ true → j < n → (end ≤ pair s (i + j) .start) × (pair s (i + j) .start + pair s (i + j) .len ≤ l)
+pub follow-pair : (s : List ℕ) (l end i n j : ℕ) → follow end l (pairs s i n) ≡ true → j < n
+    → (end ≤ pair s (i + j) .start) × (pair s (i + j) .start + pair s (i + j) .len ≤ l)
 unfolding pairs
 follow-pair s l end i zero j h k = absurd (none j k)
   where
@@ -97,10 +98,12 @@ given-within s k p h =
     subst (λ (q : Place). (directoryEnd s ≤ q .start) × (q .start + q .len ≤ length s)) e
     (follow-pair s (length s) (directoryEnd s) 0 (count s) k (g .rule) (g .below))
 
-pub given-part : (s : List ℕ) (k : ℕ) (p : Place) → glyphOf s k ≡ given p → (partOf s (p .start) (p .len) ≡ take (p .len) (drop (p .start) s)) × (length (partOf s (p .start) (p .len)) ≡ p .len)
+pub given-part : (s : List ℕ) (k : ℕ) (p : Place) → glyphOf s k ≡ given p
+    → (partOf s (p .start) (p .len) ≡ take (p .len) (drop (p .start) s)) × (length (partOf s (p .start) (p .len)) ≡ p .len)
 given-part s k p h =
     let w = given-within s k p h .1 in
-    let e : partOf s (p .start) (p .len) ≡ take (p .len) (drop (p .start) s) = ap (λ (b : Bool). pickList b (take (p .len) (drop (p .start) s))) (le-leb (p .start + p .len) (length s) w) in
+    let e : partOf s (p .start) (p .len) ≡ take (p .len) (drop (p .start) s) =
+    ap (λ (b : Bool). pickList b (take (p .len) (drop (p .start) s))) (le-leb (p .start + p .len) (length s) w) in
     let room : p .len ≤ length (drop (p .start) s) = omega (arith, length-drop (p .start) s) in
     (e, ap length e ∙ length-take-le (p .len) (drop (p .start) s) room)
 

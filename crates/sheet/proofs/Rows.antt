@@ -27,10 +27,12 @@ module _ (s : List ℕ) (k : ℕ) where
   unfolding glyphOf
   pairs-broken h d f = simp (le-ltb 65535 (length s) h, le-ltb (length s) (directoryEnd s) d, f)
 
-  pub no-glyph : length s ≤ 65535 → directoryEnd s ≤ length s → follow (directoryEnd s) (length s) (pairs s 0 (count s)) ≡ true → count s ≤ k → refused 10 ≡ glyphOf s k
+  pub no-glyph : length s ≤ 65535 → directoryEnd s ≤ length s → follow (directoryEnd s) (length s) (pairs s 0 (count s)) ≡ true → count s ≤ k
+      → refused 10 ≡ glyphOf s k
   unfolding glyphOf
   no-glyph h d f c = simp (le-ltb 65535 (length s) h, le-ltb (length s) (directoryEnd s) d, f, le-leb (count s) k c)
 
-  pub place-given : length s ≤ 65535 → directoryEnd s ≤ length s → follow (directoryEnd s) (length s) (pairs s 0 (count s)) ≡ true → k < count s → given (pair s k) ≡ glyphOf s k
+  pub place-given : length s ≤ 65535 → directoryEnd s ≤ length s → follow (directoryEnd s) (length s) (pairs s 0 (count s)) ≡ true → k < count s
+      → given (pair s k) ≡ glyphOf s k
   unfolding glyphOf
   place-given h d f c = simp (le-ltb 65535 (length s) h, le-ltb (length s) (directoryEnd s) d, f, lt-leb (count s) k c)

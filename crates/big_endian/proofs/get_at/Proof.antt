@@ -38,7 +38,8 @@ module _ (c : tie.After-wide Inv-loop μ-loop) where
 
   sum-lt : head .loop .sum * 256 + c .wide .result < 2 ^ (8 * (start .args .n - (head .loop .left - 1)))
   sum-lt =
-      more (start .args .n) (head .loop .left) (head .loop .sum) (c .wide .result) (c .before .before .loop-test .taken) (head .loop .inv .1) (head .loop .inv .2)
+      more (start .args .n) (head .loop .left) (head .loop .sum) (c .wide .result) (c .before .before .loop-test .taken) (head .loop .inv .1)
+      (head .loop .inv .2)
       (c .wide .ensures .1)
 
 loop-holds : tie.Need-loop-holds Inv-loop μ-loop

@@ -34,8 +34,10 @@ same-length-2 c = search needs
 
 returns-2 : tie.Need-returns-2
 returns-2 c =
-    let loaded = c .before .before .before .before .before .load .ensures in
-    (ap (λ (n : ℕ). loadAnswer (refused n)) (c .code .ensures) ∙ known-outcome outcome loadAnswer (c .before .before .loaded2 .given .1) (loaded .0), loaded .1)
+    let loaded = c .before .before .before .before .before .load .ensures in (
+      ap (λ (n : ℕ). loadAnswer (refused n)) (c .code .ensures) ∙ known-outcome outcome loadAnswer (c .before .before .loaded2 .given .1) (loaded .0),
+      loaded .1,
+    )
 
 pub load-spec : {M : Type 1} → statement M
 load-spec =

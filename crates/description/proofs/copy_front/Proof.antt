@@ -22,7 +22,9 @@ abbrev μ-loop : tie.MeasureT-loop
 long : (c : tie.At-loop Inv-loop μ-loop) → length (c .loop .list) ≡ length (c .before .args .list .now)
 long c =
     let a = c .before .args in
-    ap length (c .loop .inv .1) ∙ length-paste (a .list .now) 0 (a .source .now) (c .loop .i) (omega (arith, c .loop .inv .0, c .before .pre .1)) (omega (arith, c .loop .inv .0, c .before .pre .0))
+    ap length (c .loop .inv .1)
+    ∙ length-paste (a .list .now) 0 (a .source .now) (c .loop .i) (omega (arith, c .loop .inv .0, c .before .pre .1))
+    (omega (arith, c .loop .inv .0, c .before .pre .0))
 
 loop-holds : tie.Need-loop-holds Inv-loop μ-loop
 loop-holds c = (omega arith, paste-zero (c .args .list .now) 0 (c .args .source .now))

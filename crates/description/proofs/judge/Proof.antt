@@ -44,10 +44,12 @@ point-there c =
     let text = l .before .before .args .text .now in
     subst (StepAt text (l .loop .n) (drop (l .loop .at) text)) (c .p .given .1) (c .before .before .judge-line .ensures)
 
-over : (c : tie.After-loop Inv-loop μ-loop) → byLine 0 (linesRead (c .before .before .before .args .text .now)) ≡ refuseIf (eqb (c .before .loop .n) 0) 5 (given (c .before .loop .n))
+over : (c : tie.After-loop Inv-loop μ-loop)
+    → byLine 0 (linesRead (c .before .before .before .args .text .now)) ≡ refuseIf (eqb (c .before .loop .n) 0) 5 (given (c .before .loop .n))
 over c =
     let l = c .before in
-    judging-over (l .before .before .args .text .now) (l .before .before .args .found .now) (l .loop .found) (l .loop .at) (l .loop .n) (l .loop .inv) (c .loop-test .left)
+    judging-over (l .before .before .args .text .now) (l .before .before .args .found .now) (l .loop .found) (l .loop .at) (l .loop .n) (l .loop .inv)
+    (c .loop-test .left)
 
 -- ---- the needs
 
@@ -63,12 +65,14 @@ enum-known-next c = search needs
 loop-less : tie.Need-loop-less Inv-loop μ-loop
 loop-less c =
     let l = c .before .before .before .before .before in
-    next-further (l .before .before .args .text .now) (l .loop .at) (c .before .before .before .before .loop-test .taken) (c .before .next .given .0 .0) (passed (c .before) .1)
+    next-further (l .before .before .args .text .now) (l .loop .at) (c .before .before .before .before .loop-test .taken) (c .before .next .given .0 .0)
+    (passed (c .before) .1)
 
 loop-again : tie.Need-loop-again Inv-loop μ-loop
 loop-again c =
     let l = c .before .before .before .before .before in
-    judging-pass (l .before .before .args .text .now) (l .before .before .args .found .now) (l .loop .found) (l .loop .at) (l .loop .n) (l .loop .inv) (c .before .before .before .before .loop-test .taken) (c .before .next .given .0 .0) (passed (c .before))
+    judging-pass (l .before .before .args .text .now) (l .before .before .args .found .now) (l .loop .found) (l .loop .at) (l .loop .n) (l .loop .inv)
+    (c .before .before .before .before .loop-test .taken) (c .before .next .given .0 .0) (passed (c .before))
 
 enum-known-p : tie.Need-enum-known-p Inv-loop μ-loop
 enum-known-p c = search needs
@@ -94,7 +98,8 @@ loop-again-2 c =
     let text = l .before .before .args .text .now in
     let found = l .before .before .args .found .now in
     subst (λ (f : List ℤ). Judging text found f (v .p .given .0 .1 .0) (l .loop .n + 1)) (sym (c .before .put-point .ensures))
-    (judging-keep text found (l .loop .found) (l .loop .at) (l .loop .n) (l .loop .inv) (v .before .before .before .loop-test .taken) (v .p .given .0 .1 .0) (v .p .given .0 .0) (point-there v) (l .before .before .pre))
+    (judging-keep text found (l .loop .found) (l .loop .at) (l .loop .n) (l .loop .inv) (v .before .before .before .loop-test .taken)
+    (v .p .given .0 .1 .0) (v .p .given .0 .0) (point-there v) (l .before .before .pre))
 
 enum-known-r : tie.Need-enum-known-r Inv-loop μ-loop
 enum-known-r c = search needs
@@ -113,7 +118,11 @@ same-length-2 : tie.Need-same-length-2 Inv-loop μ-loop
 same-length-2 c = c .before .before .loop .inv .room
 
 returns-2 : tie.Need-returns-2 Inv-loop μ-loop
-returns-2 c = (sym (ap (λ (b : Bool). refuseIf b 5 (given (c .before .before .loop .n))) (eq-eqb (c .before .before .loop .n) 0 (c .if1 .taken))) ∙ sym (over (c .before)), tt)
+returns-2 c = (
+  sym (ap (λ (b : Bool). refuseIf b 5 (given (c .before .before .loop .n))) (eq-eqb (c .before .before .loop .n) 0 (c .if1 .taken)))
+      ∙ sym (over (c .before)),
+  tt,
+)
 
 same-length-3 : tie.Need-same-length-3 Inv-loop μ-loop
 same-length-3 c = c .before .before .loop .inv .room
@@ -122,7 +131,11 @@ returns-3 : tie.Need-returns-3 Inv-loop μ-loop
 returns-3 c =
     let l = c .before .before in (
       sym (ap (λ (b : Bool). refuseIf b 5 (given (l .loop .n))) (ne-eqb (l .loop .n) 0 (c .if1 .left))) ∙ sym (over (c .before)),
-      (judging-kept (l .before .before .args .text .now) (l .before .before .args .found .now) (l .loop .found) (l .loop .at) (l .loop .n) (l .loop .inv) (c .before .loop-test .left), l .loop .inv .few),
+      (
+        judging-kept (l .before .before .args .text .now) (l .before .before .args .found .now) (l .loop .found) (l .loop .at) (l .loop .n) (l .loop .inv)
+            (c .before .loop-test .left),
+        l .loop .inv .few,
+      ),
     )
 
 pub judge-spec : {M : Type 1} → statement M

@@ -11,7 +11,9 @@ use Rattle.description.proofs.Judging.{judge-fault, judge-outside, judg
 use Rattle.description.proofs.judge_line.Statement.{statement}
 use Rattle.description.proofs.judge_line.Tie as tie
 
-point-there : (c : tie.After-p) → let a = c .before .before .before .before .args in LineAt (a .text .now) (drop (a .at) (a .text .now)) (Scanned.Point (c .p .given .0 .0) (c .p .given .0 .1 .0))
+point-there : (c : tie.After-p) →
+    let a = c .before .before .before .before .args in
+    LineAt (a .text .now) (drop (a .at) (a .text .now)) (Scanned.Point (c .p .given .0 .0) (c .p .given .0 .1 .0))
 point-there c =
     let a = c .before .before .before .before .args in
     subst (LineAt (a .text .now) (drop (a .at) (a .text .now))) (c .p .given .1) (c .before .before .read-line .ensures)
@@ -35,13 +37,15 @@ returns : tie.Need-returns
 returns c =
     let l = c .before .before .before in
     let start = l .before .before .before .before in
-    judge-outside (start .args .text .now) (start .args .at) (start .pre) (start .args .n) (l .p .given .0 .0) (point-there l .0) (sym (c .before .in-em-box .ensures) ∙ not-true (c .before .in-em-box .result) (c .if1 .taken))
+    judge-outside (start .args .text .now) (start .args .at) (start .pre) (start .args .n) (l .p .given .0 .0) (point-there l .0)
+    (sym (c .before .in-em-box .ensures) ∙ not-true (c .before .in-em-box .result) (c .if1 .taken))
 
 returns-2 : tie.Need-returns-2
 returns-2 c =
     let l = c .before .before .before .before in
     let start = l .before .before .before .before in
-    judge-many (start .args .text .now) (start .args .at) (start .pre) (start .args .n) (l .p .given .0 .0) (point-there l .0) (in-box (c .before)) (c .if2 .taken)
+    judge-many (start .args .text .now) (start .args .at) (start .pre) (start .args .n) (l .p .given .0 .0) (point-there l .0) (in-box (c .before))
+    (c .if2 .taken)
 
 enum-told : tie.Need-enum-told
 enum-told c = search needs
@@ -59,7 +63,9 @@ returns-4 c =
 returns-5 : tie.Need-returns-5
 returns-5 c =
     let start = c .before .before .before .before in
-    judge-fault (start .args .text .now) (start .args .at) (start .pre) (start .args .n) (subst (LineAt (start .args .text .now) (drop (start .args .at) (start .args .text .now))) (c .enum-told .given .1) (c .before .before .read-line .ensures))
+    judge-fault (start .args .text .now) (start .args .at) (start .pre) (start .args .n)
+    (subst (LineAt (start .args .text .now) (drop (start .args .at) (start .args .text .now))) (c .enum-told .given .1)
+    (c .before .before .read-line .ensures))
 
 pub judge-line-spec : {M : Type 1} → statement M
 judge-line-spec =

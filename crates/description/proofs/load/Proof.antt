@@ -19,7 +19,10 @@ judged c =
     let a = c .before .before .before .before .before .args in
     c .judge .ensures .0 ∙ sym (load-judged (a .text .now) (a .list .now) (c .before .before .before .if1 .left) (c .before .before .if2 .left))
 
-kept : (c : tie.After-n) → let j = c .before .before .before in let a = j .before .before .before .before .before .args in (take (2 * c .n .given .0 .0) (j .judge .last .1 .0) ≡ flat (named (a .text .now))) × (c .n .given .0 .0 ≤ 4096)
+kept : (c : tie.After-n) →
+    let j = c .before .before .before in
+    let a = j .before .before .before .before .before .args in
+    (take (2 * c .n .given .0 .0) (j .judge .last .1 .0) ≡ flat (named (a .text .now))) × (c .n .given .0 .0 ≤ 4096)
 kept c =
     let j = c .before .before .before in
     let a = j .before .before .before .before .before .args in
@@ -71,8 +74,12 @@ returns-3 c =
     let v = c .before .before .before .before .before in
     let j = v .before .before .before in
     let a = j .before .before .before .before .before .args in
-    let e : given (v .n .given .0 .0) ≡ loadOf (a .text .now) (a .list .now) = ap outcome (sym (v .n .given .1)) ∙ judged j in
-    (e, c .before .copy-front .ensures ∙ front-pasted (a .list .now) (j .judge .last .1 .0) (named (a .text .now)) (2 * v .n .given .0 .0) (fits v) (kept v .0) ∙ sym (after-given (a .text .now) (a .list .now) (v .n .given .0 .0) (sym e)))
+    let e : given (v .n .given .0 .0) ≡ loadOf (a .text .now) (a .list .now) = ap outcome (sym (v .n .given .1)) ∙ judged j in (
+      e,
+      c .before .copy-front .ensures
+          ∙ front-pasted (a .list .now) (j .judge .last .1 .0) (named (a .text .now)) (2 * v .n .given .0 .0) (fits v) (kept v .0)
+          ∙ sym (after-given (a .text .now) (a .list .now) (v .n .given .0 .0) (sym e)),
+    )
 
 returns-4 : tie.Need-returns-4
 returns-4 c =

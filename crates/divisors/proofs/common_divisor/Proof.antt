@@ -26,7 +26,9 @@ returns c =
     let s = with-e .before .before in
     let x = with-e .before .magnitude .ensures ∙ ap natAbs (toZ-ofZ (s .fits .x)) in
     let y = c .before .magnitude2 .ensures ∙ ap natAbs (toZ-ofZ (s .fits .y)) in
-    c .gcd-of2 .ensures ∙ ap₂ gcd y (with-e .gcd-of .ensures ∙ ap (λ a. gcd a (s .args .e)) x) ∙ gcd-three (natAbs (s .args .x)) (natAbs (s .args .y)) (s .args .e)
+    c .gcd-of2 .ensures
+    ∙ ap₂ gcd y (with-e .gcd-of .ensures ∙ ap (λ a. gcd a (s .args .e)) x)
+    ∙ gcd-three (natAbs (s .args .x)) (natAbs (s .args .y)) (s .args .e)
 
 pub common-divisor-spec : {M : Type 1} → statement M
 common-divisor-spec = tie.close (tie.spec magnitude-requires gcd-of-requires magnitude-requires-2 gcd-of-requires-2 returns)

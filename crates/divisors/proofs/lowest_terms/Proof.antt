@@ -51,7 +51,8 @@ returns c =
     let e = start d .args .e in
     let x : toZ w64 (ofZ w64 (c .before .divided .result)) ≡ quotZ (start d .args .x) (pos g) =
     given g (start d .fits .x) (record { sfits = c .before .divided .ok }) (c .before .divided .ensures) in
-    let y : toZ w64 (ofZ w64 (c .divided2 .result)) ≡ quotZ (start d .args .y) (pos g) = given g (start d .fits .y) (record { sfits = c .divided2 .ok }) (c .divided2 .ensures) in
+    let y : toZ w64 (ofZ w64 (c .divided2 .result)) ≡ quotZ (start d .args .y) (pos g) =
+    given g (start d .fits .y) (record { sfits = c .divided2 .ok }) (c .divided2 .ensures) in
     (λ i. record { x = x i; y = y i; e = e / g }) ∙ ap (over (start d .args .x) (start d .args .y) e) (is-common d)
 
 pub lowest-terms-spec : {M : Type 1} → statement M

@@ -21,7 +21,8 @@ abbrev μ-loop : tie.MeasureT-loop
 μ-loop list n all₀ i₀ all i = n - i
 
 -- all from place i on are in the box exactly where point i is and all from place i + 1 on are
-box-next : (l : List ℤ) (i : ℕ) → 2 * i + 2 ≤ length l → allInEmBox (points (drop (2 * i) l)) ≡ inEmBox (pointAt l i) && allInEmBox (points (drop (2 * (i + 1)) l))
+box-next : (l : List ℤ) (i : ℕ) → 2 * i + 2 ≤ length l
+    → allInEmBox (points (drop (2 * i) l)) ≡ inEmBox (pointAt l i) && allInEmBox (points (drop (2 * (i + 1)) l))
 unfolding allInBox
 box-next l i h = ap allInEmBox (sym (drop-points i l) ∙ points-from i l h ∙ ap {B = List Point} (λ Q. pointAt l i ∷ Q) (drop-points (i + 1) l))
 

@@ -46,7 +46,8 @@ same-length c = search needs
 returns-4 : tie.Need-returns-4
 returns-4 c =
     let d = c .before .before .before in
-    let e = refused-outside _ (d .before .before .if1 .left) (d .before .if2 .left) (d .if3 .left) (sym (c .before .all-in-em-box .ensures) ∙ not-true _ (c .if4 .taken)) in
+    let e = refused-outside _ (d .before .before .if1 .left) (d .before .if2 .left) (d .if3 .left)
+    (sym (c .before .all-in-em-box .ensures) ∙ not-true _ (c .if4 .taken)) in
     (sym e, sym (list-refused _ e))
 
 smallest-requires : tie.Need-smallest-requires
@@ -64,7 +65,13 @@ first-support-requires c κs =
     let l = entry (b .before) in
     let left = a .smallest .ensures .1 .1 in
     record {
-      some = omega (arith, a .smallest .kept .0, some-length l (checked (b .before) .before .if2 .left), even-length l (checked (b .before) .before .before .if1 .left));
+      some =
+          omega (
+            arith,
+            a .smallest .kept .0,
+            some-length l (checked (b .before) .before .if2 .left),
+            even-length l (checked (b .before) .before .before .if1 .left),
+          );
       most = omega (arith, a .smallest .kept .0, checked (b .before) .if3 .left, even-length l (checked (b .before) .before .before .if1 .left));
       boxed = box-left (points l) left (in-box b);
       smallest = a .smallest .ensures .0 ∙ sym (disk-left (points l) left);

@@ -13,10 +13,15 @@ use Rattle.lines.proofs.read_line.Tie as tie
 
 -- ---- the parts that were read
 
-spaces-there : (c : tie.After-skip-spaces) → let a = c .before .before .args in Spaced (drop (a .at) (a .text .now)) (drop (c .skip-spaces .result) (a .text .now))
+spaces-there : (c : tie.After-skip-spaces) →
+    let a = c .before .before .args in
+    Spaced (drop (a .at) (a .text .now)) (drop (c .skip-spaces .result) (a .text .now))
 spaces-there c = record { is = c .skip-spaces .ensures .before }
 
-x-there : (c : tie.After-x) → let s = c .before .before .before .before .before in let text = s .before .before .args .text .now in NumberAt text (drop (s .skip-spaces .result) text) (Value (c .x .given .0 .0) (c .x .given .0 .1 .0))
+x-there : (c : tie.After-x) →
+    let s = c .before .before .before .before .before in
+    let text = s .before .before .args .text .now in
+    NumberAt text (drop (s .skip-spaces .result) text) (Value (c .x .given .0 .0) (c .x .given .0 .1 .0))
 x-there c =
     let s = c .before .before .before .before .before in
     let text = s .before .before .args .text .now in
@@ -80,7 +85,8 @@ returns-2 c =
     let r = c .before .before in
     let s = r .before .before .before in
     let text = s .before .before .args .text .now in
-    fault-first (spaces-there s) (sym (r .before .before .line-ends .ensures) ∙ r .before .if1 .left) (subst (NumberAt text (drop (s .skip-spaces .result) text)) (c .enum-told .given .1) (r .read-number .ensures))
+    fault-first (spaces-there s) (sym (r .before .before .line-ends .ensures) ∙ r .before .if1 .left)
+    (subst (NumberAt text (drop (s .skip-spaces .result) text)) (c .enum-told .given .1) (r .read-number .ensures))
 
 skip-spaces-requires-2 : tie.Need-skip-spaces-requires-2
 skip-spaces-requires-2 c κs = x-there (c .before) .1 .inside
@@ -100,7 +106,8 @@ returns-3 c =
     let n = r .before in
     let s = n .before .before .before .before .before .before .before in
     let text = s .before .before .args .text .now in
-    fault-second (spaces-there s) (first-there n) (subst (NumberAt text (drop (n .skip-spaces2 .result) text)) (c .enum-told2 .given .1) (r .read-number2 .ensures))
+    fault-second (spaces-there s) (first-there n)
+    (subst (NumberAt text (drop (n .skip-spaces2 .result) text)) (c .enum-told2 .given .1) (r .read-number2 .ensures))
 
 skip-spaces-requires-3 : tie.Need-skip-spaces-requires-3
 skip-spaces-requires-3 c κs = y-there (c .before) .1 .inside
@@ -116,8 +123,10 @@ returns-4 c =
     let m = c .before .before .before in
     let n = m .before .before .before .before .before in
     let s = n .before .before .before .before .before .before .before in
-    let l = line-point (spaces-there s) (first-there n) (second-there m) (sym (c .before .before .line-ends2 .ensures) ∙ c .before .if2 .taken) in
-    (l .0 ∙ ap₂ (λ (x y : ℤ). point (record { x = x; y = y })) (search needs) (search needs), record { inside = c .past-feed2 .ensures .inside; before = c .past-feed2 .ensures .before ∙ l .1 })
+    let l = line-point (spaces-there s) (first-there n) (second-there m) (sym (c .before .before .line-ends2 .ensures) ∙ c .before .if2 .taken) in (
+      l .0 ∙ ap₂ (λ (x y : ℤ). point (record { x = x; y = y })) (search needs) (search needs),
+      record { inside = c .past-feed2 .ensures .inside; before = c .past-feed2 .ensures .before ∙ l .1 },
+    )
 
 returns-5 : tie.Need-returns-5
 returns-5 c =

@@ -42,14 +42,19 @@ loop-less c = omega (arith, in-text c)
 loop-again : tie.Need-loop-again Inv-loop μ-loop
 loop-again c =
     let l = c .before .before in
-    let text = l .before .before .args .text .now in
-    (omega (arith, in-text c), from-next text (l .loop .i) noSpace (in-text c) (ap not (byte-passes text (l .loop .i) isSpace (space-there c))) ∙ l .loop .inv .1)
+    let text = l .before .before .args .text .now in (
+      omega (arith, in-text c),
+      from-next text (l .loop .i) noSpace (in-text c) (ap not (byte-passes text (l .loop .i) isSpace (space-there c))) ∙ l .loop .inv .1,
+    )
 
 returns : tie.Need-returns Inv-loop μ-loop
 returns c =
     let l = c .before .before in
     let here = drop (l .loop .i) (l .before .before .args .text .now) in
-    record { inside = l .loop .inv .0; before = sym (from-here noSpace here (no-space here (sym (c .before .is-at .ensures) ∙ c .if1 .left))) ∙ l .loop .inv .1 }
+    record {
+      inside = l .loop .inv .0;
+      before = sym (from-here noSpace here (no-space here (sym (c .before .is-at .ensures) ∙ c .if1 .left))) ∙ l .loop .inv .1;
+    }
 
 pub skip-spaces-spec : {M : Type 1} → statement M
 skip-spaces-spec = tie.close (tie.spec Inv-loop μ-loop loop-holds is-at-requires add-i loop-less loop-again returns)

@@ -24,7 +24,8 @@ abbrev μ-loop : tie.MeasureT-loop
 digit-there : (c : tie.Then1 Inv-loop μ-loop) → starts isDigit (drop (c .before .before .loop .i) (c .before .before .before .before .args .text .now)) ≡ true
 digit-there c = sym (c .before .digit-at .ensures) ∙ c .if1 .taken
 
-no-digit-there : (c : tie.Else1 Inv-loop μ-loop) → starts isDigit (drop (c .before .before .loop .i) (c .before .before .before .before .args .text .now)) ≡ false
+no-digit-there : (c : tie.Else1 Inv-loop μ-loop)
+    → starts isDigit (drop (c .before .before .loop .i) (c .before .before .before .before .args .text .now)) ≡ false
 no-digit-there c = sym (c .before .digit-at .ensures) ∙ c .if1 .left
 
 -- the digit read
@@ -33,7 +34,8 @@ next : (c : tie.After-digit Inv-loop μ-loop)
     Reading (l .before .before .args .text .now) (l .before .before .args .at) (10 * l .loop .v + c .digit .result) (l .loop .i + 1)
 next c =
     let l = c .before .before .before .before .before in
-    reading-digit (l .before .before .args .text .now) (l .before .before .args .at) (l .loop .inv) (c .digit .result) (c .digit .ensures) (digit-there (c .before .before .before)) (c .before .before .if2 .left)
+    reading-digit (l .before .before .args .text .now) (l .before .before .args .at) (l .loop .inv) (c .digit .result) (c .digit .ensures)
+    (digit-there (c .before .before .before)) (c .before .before .if2 .left)
 
 loop-holds : tie.Need-loop-holds Inv-loop μ-loop
 loop-holds c = reading-start (c .before .args .text .now) (c .before .args .at) (c .before .pre)
@@ -91,12 +93,14 @@ word-ends-requires c κs = tt
 returns-3 : tie.Need-returns-3 Inv-loop μ-loop
 returns-3 c =
     let l = c .before .before .before .before .before in
-    reading-end (l .before .before .args .text .now) (l .before .before .args .at) (l .loop .inv) (c .before .before .if3 .left) (sym (c .before .word-ends .ensures) ∙ c .if4 .taken)
+    reading-end (l .before .before .args .text .now) (l .before .before .args .at) (l .loop .inv) (c .before .before .if3 .left)
+    (sym (c .before .word-ends .ensures) ∙ c .if4 .taken)
 
 returns-4 : tie.Need-returns-4 Inv-loop μ-loop
 returns-4 c =
     let l = c .before .before .before .before .before in
-    reading-bad (l .before .before .args .text .now) (l .before .before .args .at) (l .loop .inv) (no-digit-there (c .before .before .before)) (sym (c .before .word-ends .ensures) ∙ c .if4 .left)
+    reading-bad (l .before .before .args .text .now) (l .before .before .args .at) (l .loop .inv) (no-digit-there (c .before .before .before))
+    (sym (c .before .word-ends .ensures) ∙ c .if4 .left)
 
 pub read-digits-spec : {M : Type 1} → statement M
 read-digits-spec =

@@ -36,7 +36,9 @@ read-digits-requires c κs =
 enum-known-v : tie.Need-enum-known-v
 enum-known-v c = search needs
 
-digits-behind : (c : tie.After-v) → let a = c .before .before .before .before .before .before .args in NaturalAt (a .text .now) (drop (a .at + 1) (a .text .now)) (Value (c .v .given .0 .0) (c .v .given .0 .1 .0))
+digits-behind : (c : tie.After-v) →
+    let a = c .before .before .before .before .before .before .args in
+    NaturalAt (a .text .now) (drop (a .at + 1) (a .text .now)) (Value (c .v .given .0 .0) (c .v .given .0 .1 .0))
 digits-behind c =
     let a = c .before .before .before .before .before .before .args in
     subst (NaturalAt (a .text .now) (drop (a .at + 1) (a .text .now))) (c .v .given .1) (c .before .before .read-digits .ensures)
@@ -61,7 +63,8 @@ returns-2 : tie.Need-returns-2
 returns-2 c =
     let r = c .before .before in
     let a = r .before .before .before .before .args in
-    signed-none (a .text .now) (drop (a .at) (a .text .now)) (drop (a .at + 1) (a .text .now)) (λ n. negℤ (pos n)) (minus-value (a .text .now) (a .at) (minus-there (r .before)))
+    signed-none (a .text .now) (drop (a .at) (a .text .now)) (drop (a .at + 1) (a .text .now)) (λ n. negℤ (pos n))
+    (minus-value (a .text .now) (a .at) (minus-there (r .before)))
     (subst (NaturalAt (a .text .now) (drop (a .at + 1) (a .text .now))) (c .enum-told .given .1) (r .read-digits .ensures))
 
 read-digits-requires-2 : tie.Need-read-digits-requires-2
@@ -72,12 +75,16 @@ enum-known-v-2 c = search needs
 
 -- ---- without one
 
-no-minus : (c : tie.Else1) → let a = c .before .before .before .args in numeral (word (drop (a .at) (a .text .now))) ≡ Option·map pos (digits (word (drop (a .at) (a .text .now))))
+no-minus : (c : tie.Else1) →
+    let a = c .before .before .before .args in
+    numeral (word (drop (a .at) (a .text .now))) ≡ Option·map pos (digits (word (drop (a .at) (a .text .now))))
 no-minus c =
     let a = c .before .before .before .args in
     numeral-plain (drop (a .at) (a .text .now)) (sym (c .before .is-at .ensures) ∙ c .if1 .left)
 
-digits-there : (c : tie.After-v2) → let a = c .before .before .before .before .before .before .args in NaturalAt (a .text .now) (drop (a .at) (a .text .now)) (Value (c .v2 .given .0 .0) (c .v2 .given .0 .1 .0))
+digits-there : (c : tie.After-v2) →
+    let a = c .before .before .before .before .before .before .args in
+    NaturalAt (a .text .now) (drop (a .at) (a .text .now)) (Value (c .v2 .given .0 .0) (c .v2 .given .0 .1 .0))
 digits-there c =
     let a = c .before .before .before .before .before .before .args in
     subst (NaturalAt (a .text .now) (drop (a .at) (a .text .now))) (c .v2 .given .1) (c .before .before .read-digits2 .ensures)
@@ -93,7 +100,8 @@ returns-3 c =
     let v = c .before .before in
     let a = v .before .before .before .before .before .before .args in
     let bs = drop (a .at) (a .text .now) in
-    signed-value (a .text .now) bs bs pos (no-minus (v .before .before .before)) (toZ-ofZ (record { sfits = c .plus .ok }) ∙ c .plus .ensures) refl (digits-there v)
+    signed-value (a .text .now) bs bs pos (no-minus (v .before .before .before)) (toZ-ofZ (record { sfits = c .plus .ok }) ∙ c .plus .ensures) refl
+    (digits-there v)
 
 returns-4 : tie.Need-returns-4
 returns-4 c =

@@ -23,7 +23,8 @@ module _ (c : tie.After-struct-told2) where
   in-x = same-bits {a = p .x} {b = q .x} (record { sfits = c .before .before .struct-told .given .0 .1 }) (record { sfits = c .struct-told2 .given .0 .1 })
 
   in-y : eqb (ofZ w16 (p .y)) (ofZ w16 (q .y)) ≡ eqZ (p .y) (q .y)
-  in-y = same-bits {a = p .y} {b = q .y} (record { sfits = c .before .before .struct-told .given .1 .0 .1 }) (record { sfits = c .struct-told2 .given .1 .0 .1 })
+  in-y =
+      same-bits {a = p .y} {b = q .y} (record { sfits = c .before .before .struct-told .given .1 .0 .1 }) (record { sfits = c .struct-told2 .given .1 .0 .1 })
 
 returns : tie.Need-returns
 unfolding same

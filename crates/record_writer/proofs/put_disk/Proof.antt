@@ -68,7 +68,9 @@ returns c =
     ∙ ap₂ (λ (z : ℤ) (m : List ℕ). put numberWidth (twos numberWidth z) yAt m) (toZ-ofZ (y-fits s)) x-stored
     ∙ put-next numberWidth y l xAt (bytesOf numberWidth x) numberWidth (bytesOf-length numberWidth x) in
     let e-stored : after-e .put-at .last .0 ≡ sets l xAt (bytesOf numberWidth x ++ bytesOf numberWidth y ++ bytesOf numberWidth e) =
-    after-e .put-at .ensures ∙ ap (put numberWidth e eAt) y-stored ∙ put-next numberWidth e l xAt (bytesOf numberWidth x ++ bytesOf numberWidth y) eAt (simp (length-append, bytesOf-length)) in
+    after-e .put-at .ensures
+    ∙ ap (put numberWidth e eAt) y-stored
+    ∙ put-next numberWidth e l xAt (bytesOf numberWidth x ++ bytesOf numberWidth y) eAt (simp (length-append, bytesOf-length)) in
     after-s .put-at2 .ensures
     ∙ ap (put numberWidth (d s .s) sAt) e-stored
     ∙ put-next numberWidth (d s .s) l xAt (bytesOf numberWidth x ++ bytesOf numberWidth y ++ bytesOf numberWidth e) sAt (simp (length-append, bytesOf-length))

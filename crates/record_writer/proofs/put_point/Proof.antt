@@ -69,7 +69,8 @@ returns c =
     ∙ ap (λ (z : ℤ). put coordinateWidth (twos coordinateWidth z) at l) (widened (q .x) (x-fits (after-x .before .before)) (after-x .before .wide .ensures))
     ∙ put-first coordinateWidth x l at in
     after-y .put-signed-at2 .ensures
-    ∙ ap₂ (λ (z : ℤ) (m : List ℕ). put coordinateWidth (twos coordinateWidth z) (at + coordinateWidth) m) (widened (q .y) (y-fits (after-y .before)) (after-y .before .wide2 .ensures)) x-stored
+    ∙ ap₂ (λ (z : ℤ) (m : List ℕ). put coordinateWidth (twos coordinateWidth z) (at + coordinateWidth) m)
+    (widened (q .y) (y-fits (after-y .before)) (after-y .before .wide2 .ensures)) x-stored
     ∙ put-next coordinateWidth y l at (bytesOf coordinateWidth x) coordinateWidth (bytesOf-length coordinateWidth x)
 
 pub put-point-spec : {M : Type 1} → statement M

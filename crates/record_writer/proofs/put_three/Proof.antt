@@ -29,7 +29,8 @@ returns c =
     let first = second .before .before .before .before in
     let s = first .before .before .before in
     third .put-point3 .ensures
-    ∙ ap (λ (m : List ℕ). sets m thirdAt (pointBytes (s .args .c))) (second .put-point2 .ensures ∙ ap (λ (m : List ℕ). sets m secondAt (pointBytes (s .args .b))) (first .put-point .ensures))
+    ∙ ap (λ (m : List ℕ). sets m thirdAt (pointBytes (s .args .c)))
+    (second .put-point2 .ensures ∙ ap (λ (m : List ℕ). sets m secondAt (pointBytes (s .args .b))) (first .put-point .ensures))
     ∙ three-stored (s .args .buf .now) (s .args .a) (s .args .b) (s .args .c)
 
 pub put-three-spec : {M : Type 1} → statement M

@@ -58,7 +58,8 @@ cast-result c = subst Castable (sym (complemented c)) (complement-castable (c .b
 sub-result-3 : tie.Need-sub-result-3
 sub-result-3 c =
     let h = c .half-of .result in
-    let l : mag (c .before .before .args .z) < h = subst (λ (k : ℕ). mag (c .before .before .args .z) < k) (sym (c .half-of .ensures)) (c .before .before .pre .1) in
+    let l : mag (c .before .before .args .z) < h =
+    subst (λ (k : ℕ). mag (c .before .before .args .z) < k) (sym (c .half-of .ensures)) (c .before .before .pre .1) in
     subst (λ (y : ℤ). natAbs y ≤ h - 1 + h) (sym (complemented c)) (complement-below (c .before .before .args .z) h (below-zero c) l)
 
 cast-result-2 : tie.Need-cast-result-2

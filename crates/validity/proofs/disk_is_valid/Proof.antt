@@ -22,10 +22,14 @@ is-lowest-requires : tie.Need-is-lowest-requires
 is-lowest-requires c κs = search needs
 
 centre-in-box-requires : tie.Need-centre-in-box-requires
-centre-in-box-requires c κs = let then1 = c .before .before in (then1 .before .before .pre, scale-limits (then1 .before .before .args .l) (then1 .before .before .args .d) (scale then1) .1)
+centre-in-box-requires c κs =
+    let then1 = c .before .before in
+    (then1 .before .before .pre, scale-limits (then1 .before .before .args .l) (then1 .before .before .args .d) (scale then1) .1)
 
 square-in-limit-requires : tie.Need-square-in-limit-requires
-square-in-limit-requires c κs = let then1 = c .before .before .before .before in (then1 .before .before .pre, scale-limits (then1 .before .before .args .l) (then1 .before .before .args .d) (scale then1) .1)
+square-in-limit-requires c κs =
+    let then1 = c .before .before .before .before in
+    (then1 .before .before .pre, scale-limits (then1 .before .before .args .l) (then1 .before .before .args .d) (scale then1) .1)
 
 returns : tie.Need-returns
 unfolding validDiskIn
