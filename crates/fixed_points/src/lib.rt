@@ -46,7 +46,7 @@ pub fn boundary_disk(fixed: Boundary) -> RelativeDisk
     match fixed {
         Boundary::None => RelativeDisk {
             e: 0,
-            qx: -1,
+            qx: geometry::LEFT_OF_BOX,
             qy: 0,
             gx: -1,
             gy: 0,

@@ -4,6 +4,7 @@
 --   inside       : so it does where the test says so
 --   left-size, right-size, foot-size, top-size : no limit of the box is larger, in size, than the largest
 --   point-size   : no coordinate of a point in the box is larger, in size, than the largest
+--   right-of     : every point of the em box is to the right of `leftOfBox`
 --   box-members  : each point of a list that is in the em box is
 --   members-box  : a list whose points all are is
 use mathlib.Core.Path.{_≡_, refl, sym, subst}
@@ -14,12 +15,13 @@ use Prim.Native.Nat.{ℕ, max, _≤_}
 use native.Mathlib.Nat.{le-trans, le-max-left, le-max-right}
 use lib.Dec.{T}
 use lib.IntN.{natAbs}
-use lib.Signed.{_≤ℤ_}
+use lib.Signed.{_≤ℤ_, _<ℤ_}
 use Rattle.integers.specs.Order.{between}
+use Rattle.integers.proofs.Order.{<-≤-trans}
 use Rattle.integers.proofs.Tests.{first, rest, pass, test-true, true-test, between-most, between-low, between-high}
 use Rattle.geometry.specs.declared.Point.{Point}
 use Rattle.geometry.specs.declared.Limits.{Limits}
-use Rattle.geometry.specs.EmBox.{inBox, allInBox, inEmBox, allInEmBox, largest}
+use Rattle.geometry.specs.EmBox.{em, leftOfBox, inBox, allInBox, inEmBox, allInEmBox, largest}
 
 pub record Inside (l : Limits) (p : Point) : Type 0 where
   pub from-left : l .left ≤ℤ p .x
@@ -66,6 +68,9 @@ module _ (l : Limits) (p : Point) (h : inBox l p ≡ true) where
   pub point-size : (natAbs (p .x) ≤ largest l) × (natAbs (p .y) ≤ largest l)
   point-size =
       (between-most (l .left) (p .x) (l .right) (left-size l) (right-size l) in-x, between-most (l .foot) (p .y) (l .top) (foot-size l) (top-size l) in-y)
+
+pub right-of : (p : Point) → inEmBox p ≡ true → leftOfBox <ℤ p .x
+right-of p h = <-≤-trans (record { lt = tt }) (inside em p h .from-left)
 
 pub box-members : (P : List Point) → allInEmBox P ≡ true → (p : Point) → List·Memᴰ p P → T (inEmBox p)
 unfolding allInBox

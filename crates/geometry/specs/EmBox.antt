@@ -1,6 +1,7 @@
 -- The em box, and how large the numbers of a disk in it can be (01, "What the engine holds", "Disk and rim"). This is the one home of these limits.
 --
 --   em               == document 01's limits: x from 0 to 1000, y from −250 to 750; E at most 2,000,000 and S/E² at most 500,000
+--   leftOfBox        == a number to the left of the em box, where the procedure's empty disk has its point
 --   inBox l p        == p lies in the box of the limits l
 --   allInBox l ps    == every point of ps does
 --   inEmBox, allInEmBox == the same for the em box
@@ -9,7 +10,7 @@
 use mathlib.Core.Bool.{Bool, true, _&&_}
 use mathlib.Core.List.{List, [], _∷_}
 use Prim.Native.Nat.{ℕ, _*_, _≤_, max}
-use lib.IntN.{pos, negsuc, natAbs, _*ℤ_}
+use lib.IntN.{ℤ, pos, negsuc, natAbs, _*ℤ_}
 use Rattle.integers.specs.Order.{_≼_, between}
 use Rattle.geometry.specs.declared.Point.{Point}
 use Rattle.geometry.specs.declared.Disk.{Disk}
@@ -17,6 +18,9 @@ use Rattle.geometry.specs.declared.Limits.{Limits}
 
 abbrev pub em : Limits
 em = record { left = pos 0; right = pos 1000; foot = negsuc 249; top = pos 750; scale = 2_000_000; square = 500_000 }
+
+abbrev pub leftOfBox : ℤ
+leftOfBox = negsuc 0
 
 unfoldable pub inBox : Limits → Point → Bool
 inBox l p = between (l .left) (p .x) (l .right) && between (l .foot) (p .y) (l .top)

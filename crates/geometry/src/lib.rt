@@ -46,6 +46,9 @@ pub fn wide(v: i16) -> i64
     v as i64
 }
 
+// To the left of the em box.
+pub const LEFT_OF_BOX: i64 = -1;
+
 // Document 01's limits. Every test of a limit takes them from here.
 pub fn em_limits() -> Limits
     ensures { λ r. ⌜ r ≡ em ⌝ }

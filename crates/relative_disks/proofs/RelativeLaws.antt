@@ -10,17 +10,17 @@ use mathlib.Core.Path.{_≡_, sym, _∙_, ap, ap₂}
 use mathlib.Core.Bool.{Bool, true, false, not}
 use mathlib.Core.List.{[], _∷_}
 use lib.IntN.{ℤ, pos, negsuc, _+ℤ_, _-ℤ_, _*ℤ_}
-use lib.Signed.{ltZ, _≤ℤ_, _<ℤ_}
+use lib.Signed.{ltZ, _<ℤ_}
 use mir.Syntax.{w16, w64}
 use mir.Val.{toZ, ofZ}
 use Rattle.integers.proofs.Tests.{test-true}
 use Rattle.integers.specs.Order.{Within}
 use Rattle.integers.proofs.Bounds.{leaf-back}
-use Rattle.integers.proofs.Order.{positive, le, nn, _⊞_, _⊠_}
+use Rattle.integers.proofs.Order.{positive, nn, _⊞_, _⊠_, lt}
 use Rattle.integers.proofs.Ring.{ring, poly}
 use Rattle.geometry.specs.declared.Point.{Point}
-use Rattle.geometry.specs.EmBox.{em, inEmBox}
-use Rattle.geometry.proofs.EmBox.{inside, point-size}
+use Rattle.geometry.specs.EmBox.{em, inEmBox, leftOfBox}
+use Rattle.geometry.proofs.EmBox.{point-size, right-of}
 use Rattle.disks.specs.Procedure.{Cover, disk, outside, norm}
 use Rattle.disks.proofs.Lifted.{value}
 use Rattle.disks.proofs.Relative.{relative}
@@ -59,14 +59,14 @@ near-box p h = let size = point-size em p h in record { x-near = record { within
 
 -- ---- the test
 
--- every point with x ≥ 0 is outside the empty disk
-beyond-nothing : (x y : ℤ) → pos 0 ≤ℤ x
-    → pos 0 <ℤ ((x -ℤ negsuc 0) *ℤ ((x -ℤ negsuc 0) *ℤ pos 0 -ℤ pos 2 *ℤ negsuc 0) +ℤ (y -ℤ pos 0) *ℤ ((y -ℤ pos 0) *ℤ pos 0 -ℤ pos 2 *ℤ pos 0))
-beyond-nothing x y h = positive (x ∷ y ∷ []) (nn 2 ⊠ le h ⊞ nn 1) (search poly depth 30) tt
+-- every point to the right of q is outside the empty disk
+beyond-nothing : (q x y : ℤ) → q <ℤ x
+    → pos 0 <ℤ ((x -ℤ q) *ℤ ((x -ℤ q) *ℤ pos 0 -ℤ pos 2 *ℤ negsuc 0) +ℤ (y -ℤ pos 0) *ℤ ((y -ℤ pos 0) *ℤ pos 0 -ℤ pos 2 *ℤ pos 0))
+beyond-nothing q x y h = positive (q ∷ x ∷ y ∷ []) (nn 2 ⊠ lt h ⊞ nn 1) (search poly depth 30) tt
 
 outside-nothing : (p : Point) → inEmBox p ≡ true → isOutside nothing p ≡ true
 unfolding beyond
-outside-nothing p h = test-true _ (beyond-nothing (p .x) (p .y) (inside em p h .from-left) .lt)
+outside-nothing p h = test-true _ (beyond-nothing leftOfBox (p .x) (p .y) (right-of p h) .lt)
 
 -- with e = 0 and g = 0 none is
 beyond-row : (qx qy x y : ℤ) → beyond (pos 0) qx qy (pos 0) (pos 0) x y ≡ false

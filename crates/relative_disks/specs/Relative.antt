@@ -16,7 +16,7 @@ use lib.Signed.{ltZ}
 use Rattle.integers.specs.Order.{Within, _≺_}
 use Rattle.geometry.specs.declared.Point.{Point}
 use Rattle.geometry.specs.declared.Disk.{Disk}
-use Rattle.geometry.specs.EmBox.{em, largest}
+use Rattle.geometry.specs.EmBox.{em, leftOfBox, largest}
 use Rattle.geometry.specs.Plane.{holds}
 use Rattle.disks.specs.Procedure.{Cover, empty, disk, lowestTerms, norm}
 use Rattle.relative_disks.specs.declared.RelativeDisk.{RelativeDisk}
@@ -32,7 +32,7 @@ isOutside d p = beyond (d .e) (d .qx) (d .qy) (d .gx) (d .gy) (p .x) (p .y)
 
 -- q is to the left of the em box, and g points away from it
 abbrev pub nothing : RelativeDisk
-nothing = record { e = pos 0; qx = negsuc 0; qy = pos 0; gx = negsuc 0; gy = pos 0 }
+nothing = record { e = pos 0; qx = leftOfBox; qy = pos 0; gx = negsuc 0; gy = pos 0 }
 
 abbrev pub pointAbout : ℤ → ℤ → RelativeDisk
 pointAbout x y = record { e = pos 1; qx = x; qy = y; gx = pos 0; gy = pos 0 }
