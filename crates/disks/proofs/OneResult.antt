@@ -64,7 +64,7 @@ runs-same (stays {P = P} p h r o) (at-once k c) e l = absurd (not-at-once P p k 
 runs-same (stays {P = P} p h r o) (stays {P = Q} q k d n) e l =
     let (same, last) = last-same P Q p q l in
     let state = runs-same r d e same in
-    λ i. record { cover = state i .cover; tests = state i .tests + 1; left = state i .left ++ (last i ∷ []) }
+    cc
 runs-same (stays {P = P} p h r o) (moves {P = Q} q k d n a) e l =
     let (same, last) = last-same P Q p q l in
     two-answers (ap (λ (s : State). s .cover) (sym (runs-same r d e same))) (sym last) n o
@@ -76,4 +76,4 @@ runs-same (moves {P = P} p h r o b) (moves {P = Q} q k d n a) e l =
     let (same, last) = last-same P Q p q l in
     let state = runs-same r d e same in
     let inner = runs-same b a (λ i. last i ∷ e i) (λ i. state i .left) in
-    λ i. record { cover = inner i .cover; tests = state i .tests + 1 + inner i .tests; left = last i ∷ inner i .left }
+    cc
