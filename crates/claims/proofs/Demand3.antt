@@ -1,5 +1,6 @@
 -- Demand 3 holds (specs/Demand3.antt).
 --
+--   state-by-text     : the text's words lead to the function's state and to no other
 --   procedure-welzls  : the engine's answer is the procedure's
 --   answers d S       == what radius, preview and writer give for the disk d and the support set S
 --   worked-is         : the calls on an accepted description, one after another, give the answers for the points that it names
@@ -7,6 +8,7 @@
 --   demand-three      : Demand3
 use mathlib.Core.Path.{_≡_, refl, sym, ap, ap₂, _∙_, subst}
 use mathlib.Core.Bool.{true}
+use mathlib.Core.Logic.{_↔_}
 use mathlib.Core.List.{List, [], _∷_, List·Permᴰ}
 use Prim.Native.Nat.{ℕ, _+_, _*_, _/_, _≤_}
 use native.Mathlib.Omega.{arith}
@@ -19,9 +21,11 @@ use Rattle.geometry.specs.Points.{points, flat}
 use Rattle.geometry.proofs.PointLists.{points-of-flat}
 use Rattle.point_lists.specs.Sets.{Same}
 use Rattle.disks.specs.Smallest.{Smallest}
-use Rattle.disks.specs.Procedure.{disk, mtf, diskOf, testsOf, orderOf}
+use Rattle.disks.specs.Procedure.{State, disk, mtf, diskOf, testsOf, orderOf}
+use Rattle.disks.specs.Runs.{Runs}
 use Rattle.disks.specs.Support.{firstSupport}
 use Rattle.disks.proofs.Welzl.{mtf-ends, smallest, disk-same, tests-most, order-permuted}
+use Rattle.disks.proofs.ByText.{by-text}
 use Rattle.disks.proofs.First.{first-support-same}
 use Rattle.description.specs.Description.{loadOf, named}
 use Rattle.description.proofs.AcceptedTexts.{load-same, accepted-room}
@@ -51,21 +55,34 @@ ends-on (p ∷ P) some = mtf-ends p P
 few : (P : List Point) → testsOf P ≤ (length P * length P * length P + 5 * length P) / 6
 few P = omega (arith, tests-most P)
 
+state-by-text : (P : List Point) (t : State) → mtf [] P ≡ t → (s : State) → Runs [] P s ↔ (s ≡ t)
+state-by-text P t e s = (
+  (λ r. by-text .complete [] P s (omega arith) tt r ∙ e),
+  (λ h. subst (Runs [] P) (e ∙ sym h) (by-text .runs P)),
+)
+
 procedure-welzls : (l : List ℤ) (e : Enclosure) → encloseOf l ≡ given e → ProcedureIsWelzls l e
 procedure-welzls l e h = subst (ProcedureIsWelzls l) (sym (a .answer)) (record {
-  ends-on-disk = ends-on (points l) (has-point l (a .even) (a .some));
+  ends-on-disk = ends;
   smallest = subst (λ (k : Enclosure). Smallest (points l) (k .disk)) (a .answer) (engine-right l e h .smallest);
   tests-are = refl;
   order-is = order;
-  permuted = subst (λ (Q : List Point). List·Permᴰ Q (points l)) (sym (ap points order ∙ points-of-flat (orderOf (points l)))) (order-permuted (points l));
+  by-text = state-by-text (points l) _ (λ i. record { cover = ends i; tests = testsOf (points l); left = left i });
+  permuted = subst (λ (Q : List Point). List·Permᴰ Q (points l)) left (order-permuted (points l));
   tests-most = few (points l);
 })
   where
     a : Accepted l e
     a = accepted-list l e h
 
+    ends : mtf [] (points l) .cover ≡ disk (diskOf (points l))
+    ends = ends-on (points l) (has-point l (a .even) (a .some))
+
     order : listAfter l ≡ flat (orderOf (points l))
     order = list-accepted l h
+
+    left : orderOf (points l) ≡ points (listAfter l)
+    left = sym (ap points order ∙ points-of-flat (orderOf (points l)))
 
 -- ---- records worked out
 

@@ -1,7 +1,8 @@
 -- Demand 3 of document 00, over the definitions that the contracts of the public calls cite. It is shown in proofs/Demand3.antt.
 --
---   ProcedureIsWelzls    == the disk, the count and the order left are those of Welzl's procedure, started on the list as given; the order
---                           left is a permutation, and the count is at most (n³ + 5n) / 6
+--   ProcedureIsWelzls    == the disk, the count and the order left are those of Welzl's procedure, started on the list as given: of the
+--                           function `mtf`, and of document 01's own words (`Runs`); the order left is a permutation, and the count is at
+--                           most (n³ + 5n) / 6
 --   AcceptedDescription  == a description that the loader, lent some list, does not refuse
 --   Answers              == what the calls give for a description: disk, support set, whole radius, preview and record
 --   worked t l b         == the calls one after another for the description t, lent the list l and the buffer b: loader, then engine, given
@@ -20,7 +21,8 @@ use Rattle.geometry.specs.declared.Disk.{Disk}
 use Rattle.geometry.specs.Points.{points, flat}
 use Rattle.point_lists.specs.Sets.{Same}
 use Rattle.disks.specs.Smallest.{Smallest}
-use Rattle.disks.specs.Procedure.{disk, mtf}
+use Rattle.disks.specs.Procedure.{State, disk, mtf}
+use Rattle.disks.specs.Runs.{Runs}
 use Rattle.disks.specs.FirstSupport.{IsFirstSupport}
 use Rattle.description.specs.Description.{loadOf, named}
 use Rattle.engine.specs.Engine.{Enclosure, encloseOf, listAfter}
@@ -41,6 +43,9 @@ pub record ProcedureIsWelzls (l : List ℤ) (e : Enclosure) : Type 0 where
   -- "The test count returned and the order left in the list .. are exactly that procedure's"
   pub tests-are : e .tests ≡ mtf [] (points l) .tests
   pub order-is : listAfter l ≡ flat (mtf [] (points l) .left)
+  -- the procedure as document 01 has it ("P empty or R of three: .. Otherwise, with p the last of P: .."), from no point fixed, ends in this disk,
+  -- this count and this order, and in nothing else
+  pub by-text : (s : State) → Runs [] (points l) s ↔ (s ≡ record { cover = disk (e .disk); tests = e .tests; left = points (listAfter l) })
   -- "the same corners each as often as before"
   pub permuted : List·Permᴰ (points (listAfter l)) (points l)
   -- "the count never above (n³ + 5n) / 6 for n entries"

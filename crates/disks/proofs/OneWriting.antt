@@ -1,6 +1,7 @@
 -- Each disk has a single writing (01, "Disk and rim").
 --
 --   rational d     == a disk of four whole numbers, among the rational disks
+--   fits-own       : a smallest disk fits the points whose it is
 --   smallest-same  : two smallest disks of the same points are equal in all four numbers
 use mathlib.Core.Path.{_≡_, ap}
 use mathlib.Core.List.{List, [], _∷_}
@@ -21,7 +22,7 @@ use Rattle.disks.proofs.Base.{positive-not-zero}
 use Rattle.disks.proofs.StrongSmallest.{some-positive}
 
 -- a disk among the rational disks
-abbrev rational : (d : Disk) → 1 ≤ d .e → RationalDisk
+abbrev pub rational : (d : Disk) → 1 ≤ d .e → RationalDisk
 rational d h = record { x = d .x; y = d .y; e = d .e; a = pos (d .s); b = d .e * d .e; e-some = h; b-some = mul-le-mul h h }
 
 scaled : (e d s : ℤ) → d ≤ℤ s → ((e *ℤ e) *ℤ d) ≤ℤ (s *ℤ (e *ℤ e))
@@ -30,7 +31,7 @@ scaled e d s h = nonneg (e ∷ d ∷ s ∷ []) (sq e ⊠ le h) (search poly dept
 scaled-equal : (e d s : ℤ) → d ≡ s → (e *ℤ e) *ℤ d ≡ s *ℤ (e *ℤ e)
 scaled-equal e d s h = linear (e ∷ d ∷ s ∷ []) (eqn (e *ℤ e) h) (search poly depth 30) tt
 
-fits-own : {P R Q S : List Point} {d : Disk} → Same Q P → Same S R → (m : SmallestWith P R d) → Fits (rational d (m .proper)) Q S
+pub fits-own : {P R Q S : List Point} {d : Disk} → Same Q P → Same S R → (m : SmallestWith P R d) → Fits (rational d (m .proper)) Q S
 unfolding holds
 fits-own {d} t u m = record {
   holds-all = λ p i. scaled (pos (d .e)) (distance d p) (pos (d .s)) (record { le = m .holds-all p (t .to p i) });

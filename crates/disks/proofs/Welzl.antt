@@ -2,7 +2,7 @@
 --
 --   mtf-disk, mtf-smallest : with R fixed, at most three points and all different, and some rational disk that fits (P, R), the procedure
 --                            ends on a disk, the smallest for (P, R)
---   boundary-smallest      : `boundaryDisk R` is the smallest disk with R on its boundary, if there is any
+--   feasible-disk, feasible-smallest : the same where some lifted disk is feasible
 --   mtf-ends               : from no point fixed, for every list of at least one point, it ends on a disk
 --   smallest               : and that is the smallest
 --   disk-same              : lists with the same points have the same disk
@@ -17,35 +17,36 @@ use Rattle.geometry.specs.declared.Point.{Point}
 use Rattle.point_lists.specs.Sets.{Same, Different}
 use Rattle.point_lists.proofs.Sets.{same-refl}
 use Rattle.disks.specs.Smallest.{RationalDisk, Fits, SmallestWith, Smallest}
-use Rattle.disks.specs.Procedure.{Cover, disk, State, boundaryDisk, mtf, mtf-empty, diskIn, diskOf, testsOf, orderOf}
-use Rattle.disks.proofs.Minimal.{StronglyMinimal}
+use Rattle.disks.specs.Procedure.{Cover, disk, mtf, diskIn, diskOf, testsOf, orderOf}
+use Rattle.disks.proofs.Lifted.{Lifted}
+use Rattle.disks.proofs.Minimal.{Feasible, StronglyMinimal}
 use Rattle.disks.proofs.LiftedProcedure.{liftedRun}
 use Rattle.disks.proofs.Correct.{run-strong, mtf-strong}
-use Rattle.disks.proofs.Runs.{run-permuted, run-tests, most-three}
+use Rattle.disks.proofs.EveryRun.{run-permuted, run-tests, most-three}
 use Rattle.disks.proofs.LowestTerms.{lowered}
 use Rattle.disks.proofs.Bridge.{cover-disk, strong-written, run-agree, mtf-cover, diskOf-lowered}
 use Rattle.disks.proofs.StrongSmallest.{lift, lift-feasible, strong-smallest}
 use Rattle.disks.proofs.OneWriting.{smallest-same}
 
-module _ (R P : List Point) (most : length R ≤ 3) (different : Different R) (some : 1 ≤ length P + length R) (c : RationalDisk) (fits : Fits c P R) where
+module _ (R P : List Point) (most : length R ≤ 3) (different : Different R) (some : 1 ≤ length P + length R) (W : Lifted) (f : Feasible P R W) where
   strong : StronglyMinimal P R (liftedRun R P .disk)
-  strong = run-strong R P (lift c) most some different (lift-feasible fits)
+  strong = run-strong R P W most some different f
 
   cover-is : mtf R P .cover ≡ disk (lowered (liftedRun R P .disk))
-  cover-is = run-agree (3 - length R) R P (lift c) (lift-feasible fits) different (omega arith) .cover-is
-      ∙ cover-disk (liftedRun R P .disk) (strong .feasible .proper)
+  cover-is = run-agree (3 - length R) R P W f different (omega arith) .cover-is ∙ cover-disk (liftedRun R P .disk) (strong .feasible .proper)
 
+  pub feasible-disk : mtf R P .cover ≡ disk (diskIn (mtf R P .cover))
+  feasible-disk = cover-is ∙ ap (λ (k : Cover). disk (diskIn k)) (sym cover-is)
+
+  pub feasible-smallest : SmallestWith P R (diskIn (mtf R P .cover))
+  feasible-smallest = subst (λ (k : Cover). SmallestWith P R (diskIn k)) (sym cover-is) (strong-smallest strong (strong-written strong))
+
+module _ (R P : List Point) (most : length R ≤ 3) (different : Different R) (some : 1 ≤ length P + length R) (c : RationalDisk) (fits : Fits c P R) where
   pub mtf-disk : mtf R P .cover ≡ disk (diskIn (mtf R P .cover))
-  mtf-disk = cover-is ∙ ap (λ (k : Cover). disk (diskIn k)) (sym cover-is)
+  mtf-disk = feasible-disk R P most different some (lift c) (lift-feasible fits)
 
   pub mtf-smallest : SmallestWith P R (diskIn (mtf R P .cover))
-  mtf-smallest = subst (λ (k : Cover). SmallestWith P R (diskIn k)) (sym cover-is) (strong-smallest strong (strong-written strong))
-
--- the disks that the procedure starts from
-pub boundary-smallest : (R : List Point) → 1 ≤ length R → length R ≤ 3 → Different R → (c : RationalDisk) → Fits c [] R
-    → SmallestWith [] R (diskIn (boundaryDisk R))
-boundary-smallest R some most different c fits = subst (λ (s : State). SmallestWith [] R (diskIn (s .cover))) (mtf-empty R)
-    (mtf-smallest R [] most different (omega arith) c fits)
+  mtf-smallest = feasible-smallest R P most different some (lift c) (lift-feasible fits)
 
 -- ---- from no point fixed
 

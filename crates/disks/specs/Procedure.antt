@@ -9,7 +9,8 @@
 --   mtf-empty, mtf-full, mtf-last : the text's own rule: P empty, R of three, otherwise by the last point of P
 --
 -- Against 000: the first permutation is left out (01), and each test is counted (01). The steps of `run` go through P from its first
--- point on, which is the text's recursion on the last point, as `mtf-last` says.
+-- point on, which is the text's recursion on the last point, as `mtf-last` says. The text's own words, with no formula for a disk, are
+-- Runs.antt, and `ByText` there says that this is the same.
 use mathlib.Core.Path.{_≡_, refl, _∙_, ap}
 use mathlib.Core.Bool.{Bool, true, false, not}
 use mathlib.Core.List.{List, [], _∷_, _++_}
