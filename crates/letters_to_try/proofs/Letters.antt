@@ -11,7 +11,7 @@ use Rattle.disks.specs.Support.{fronted, choose, sameDisk, supports, firstOf, f
 use Rattle.engine.specs.Engine.{encloseOf, listAfter}
 use Rattle.integers.specs.Least.{least, firstFrom}
 use Rattle.validity.specs.Valid.{centreInBox, validDiskIn, validPointsIn, validIn}
-use Rattle.claims.specs.Letters.{letters, AllHold}
+use Rattle.letters_to_try.specs.Letters.{letters, AllHold}
 
 pub letters-hold : AllHold letters
 unfolding gcd steps holds inBox allInBox before points flat
