@@ -1,4 +1,9 @@
 -- The letters and the edges as descriptions are what specs/Descriptions.antt says, by computing; two writings agree by demand 3.
+--
+--   letters-described, edges-load : the letters and the edges
+--   has p Q, each P Q             == p is one of Q, each of P is: as tests
+--   has-in, each-in               : so they are
+--   writings-agree                : the writings
 use mathlib.Core.Path.{_≡_, refl, sym, _∙_, subst}
 use mathlib.Core.Logic.{_⊎_, inl, inr}
 use mathlib.Core.Bool.{Bool, true, false, _&&_, _||_, true≢false}
@@ -8,8 +13,8 @@ use Prim.Native.String.{String}
 use native.Mathlib.Omega.{arith}
 use borrow.Author.Tests.{leb-true}
 use lib.Dec.{leb}
-use lib.IntN.{ℤ, pos}
-use lib.ListN.{length, length-replicate, replicate}
+use lib.IntN.{pos}
+use lib.ListN.{length, length-replicate}
 use Rattle.answers.specs.Outcome.{Outcome, given}
 use Rattle.integers.proofs.Tests.{first, rest}
 use Rattle.geometry.specs.declared.Point.{Point}
@@ -21,101 +26,58 @@ use Rattle.description.proofs.Loading.{load-judged}
 use Rattle.point_lists.specs.Sets.{In}
 use Rattle.record_reader.specs.Reading.{same}
 use Rattle.record_reader.proofs.SamePoint.{same-eq}
+use Rattle.letter.specs.Letter.{room}
 use Rattle.claims.specs.Demand3.{AcceptedDescription}
 use Rattle.letters_to_try.specs.Letters.{Letter, letters}
 use Rattle.claims.proofs.Demand3.{demand-three}
+use Rattle.letters_to_try.proofs.Letters.{_&_}
 use Rattle.letters_to_try.specs.Descriptions.{bytes, Loads, Described, AllDescribed, descriptions, AllLoad, edges, Agree, AllAgree, writings}
 
-loads : (t : String) {o : Outcome ℕ} → leb (length (bytes t)) 65535 ≡ true → byLine 0 (linesRead (bytes t)) ≡ o → Loads t o
-loads t short e = record { answers = λ l room. load-judged (bytes t) l room (leb-true (length (bytes t)) 65535 short) ∙ e }
+loads : (bs : List ℕ) {o : Outcome ℕ} → leb (length bs) 65535 ≡ true → byLine 0 (linesRead bs) ≡ o → Loads bs o
+loads bs short e = record { answers = λ l room. load-judged bs l room (leb-true (length bs) 65535 short) ∙ e }
 
 described : (c : Letter) (t : String) → leb (length (bytes t)) 65535 ≡ true → named (bytes t) ≡ c .list
     → byLine 0 (linesRead (bytes t)) ≡ given (length (c .list)) → Described c t
-described c t short names taken = record { names = names; loads = loads t short taken }
+described c t short names taken = record { names = names; loads = loads (bytes t) short taken }
 
 pub letters-described : AllDescribed letters descriptions
 unfolding joinPiece pieces nonEmpty allDigits decimal digits numeral lineOfWords pointsOn byLine inBox
-letters-described = (
-  described _ _ refl refl refl,
-  (
-    described _ _ refl refl refl,
-    (
-      described _ _ refl refl refl,
-      (
-        described _ _ refl refl refl,
-        (
-          described _ _ refl refl refl,
-          (
-            described _ _ refl refl refl,
-            (
-              described _ _ refl refl refl,
-              (
-                described _ _ refl refl refl,
-                (
-                  described _ _ refl refl refl,
-                  (
-                    described _ _ refl refl refl,
-                    (
-                      described _ _ refl refl refl,
-                      tt,
-                    ),
-                  ),
-                ),
-              ),
-            ),
-          ),
-        ),
-      ),
-    ),
-  ),
-)
+letters-described =
+    described _ _ refl refl refl
+    & described _ _ refl refl refl
+    & described _ _ refl refl refl
+    & described _ _ refl refl refl
+    & described _ _ refl refl refl
+    & described _ _ refl refl refl
+    & described _ _ refl refl refl
+    & described _ _ refl refl refl
+    & described _ _ refl refl refl
+    & described _ _ refl refl refl
+    & described _ _ refl refl refl
+    & tt
 
 pub edges-load : AllLoad edges
 unfolding joinPiece pieces nonEmpty allDigits decimal digits numeral lineOfWords pointsOn byLine inBox
-edges-load = (
-  loads _ refl refl,
-  (
-    loads _ refl refl,
-    (
-      loads _ refl refl,
-      (
-        loads _ refl refl,
-        (
-          loads _ refl refl,
-          (
-            loads _ refl refl,
-            (
-              loads _ refl refl,
-              (
-                loads _ refl refl,
-                (
-                  loads _ refl refl,
-                  (
-                    loads _ refl refl,
-                    (
-                      loads _ refl refl,
-                      (
-                        loads _ refl refl,
-                        (
-                          loads _ refl refl,
-                          tt,
-                        ),
-                      ),
-                    ),
-                  ),
-                ),
-              ),
-            ),
-          ),
-        ),
-      ),
-    ),
-  ),
-)
+edges-load =
+    loads _ refl refl
+    & loads _ refl refl
+    & loads _ refl refl
+    & loads _ refl refl
+    & loads _ refl refl
+    & loads _ refl refl
+    & loads _ refl refl
+    & loads _ refl refl
+    & loads _ refl refl
+    & loads _ refl refl
+    & loads _ refl refl
+    & loads _ refl refl
+    & loads _ refl refl
+    & loads _ refl refl
+    & loads _ refl refl
+    & tt
 
 -- ---- two writings
 
--- each of P is one of Q, as a test
 has : Point → List Point → Bool
 has p [] = false
 has p (q ∷ Q) = same p q || has p Q
@@ -142,17 +104,13 @@ each-in (q ∷ P) Q h p i = go (each-in P Q (rest (has q Q) (each P Q) h) p) (Li
     go f (inl e) = subst (λ (r : Point). In r Q) (sym e) (has-in q Q (first (has q Q) (each P Q) h))
     go f (inr k) = f k
 
--- a list that is long enough
-abbrev room : List ℤ
-room = replicate 8192 (pos 0)
-
 room-long : 8192 ≤ length room
 room-long = subst (λ (n : ℕ). 8192 ≤ n) (sym (length-replicate 8192 (pos 0))) (omega arith)
 
-accepted : (t : String) (n : ℕ) → Loads t (given n) → AcceptedDescription (bytes t)
+accepted : (t : String) (n : ℕ) → Loads (bytes t) (given n) → AcceptedDescription (bytes t)
 accepted t n h = record { list = room; count = n; loads = h .answers room room-long }
 
-agree : (t u : String) (m n : ℕ) → Loads t (given m) → Loads u (given n)
+agree : (t u : String) (m n : ℕ) → Loads (bytes t) (given m) → Loads (bytes u) (given n)
     → each (named (bytes t)) (named (bytes u)) ≡ true → each (named (bytes u)) (named (bytes t)) ≡ true
     → Agree t u
 agree t u m n h k to from = record {
@@ -162,10 +120,7 @@ agree t u m n h k to from = record {
 
 pub writings-agree : AllAgree writings
 unfolding joinPiece pieces nonEmpty allDigits decimal digits numeral lineOfWords pointsOn byLine inBox same has each
-writings-agree = (
-  agree _ _ 4 5 (loads _ refl refl) (loads _ refl refl) refl refl,
-  (
-    agree _ _ 3 4 (loads _ refl refl) (loads _ refl refl) refl refl,
-    tt,
-  ),
-)
+writings-agree =
+    agree _ _ 4 5 (loads _ refl refl) (loads _ refl refl) refl refl
+    & agree _ _ 3 4 (loads _ refl refl) (loads _ refl refl) refl refl
+    & tt

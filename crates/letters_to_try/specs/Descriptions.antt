@@ -1,15 +1,16 @@
--- The letters of document 01 and its edges as descriptions. Shown in proofs/Descriptions.antt.
+-- The letters of document 01 and its edges as descriptions ("Letters to try"). Shown in proofs/Descriptions.antt.
 --
 --   bytes t           == the bytes of a text (of characters of one byte each)
---   Loads t o         == the loader, lent any list that is long enough, answers o for the text t
+--   copies n t        == n times the text t
+--   Loads bs o        == the loader, lent any list that is long enough, answers o for the bytes bs
 --   Described c t     == t is a description of the letter c: it names the letter's list, and the loader takes it
 --   descriptions      == one for each of the letters A to K
---   edges             == texts and what the loader answers
+--   edges             == descriptions and what the loader answers
 --   writings          == pairs of texts that name the same set of points in other ways
 --   Agree t u         == whatever lists and buffers that are long enough are lent: the same disk, support set, radius, preview and record
 use mathlib.Core.Path.{_≡_}
-use mathlib.Core.List.{List, [], _∷_}
-use Prim.Native.Nat.{ℕ, _≤_}
+use mathlib.Core.List.{List, [], _∷_, _++_}
+use Prim.Native.Nat.{ℕ, zero, suc, _≤_}
 use Prim.Native.Char.{code}
 use Prim.Native.String as text
 use Prim.Native.String.{String}
@@ -25,14 +26,18 @@ abbrev pub bytes : String → List ℕ
 bytes text.[] = []
 bytes (text._∷_ c t) = code c ∷ bytes t
 
-pub record Loads (t : String) (o : Outcome ℕ) : Type 0 where
-  pub answers : (l : List ℤ) → 8192 ≤ length l → loadOf (bytes t) l ≡ o
+abbrev pub copies : ℕ → String → List ℕ
+copies zero t = []
+copies (suc n) t = bytes t ++ copies n t
+
+pub record Loads (bs : List ℕ) (o : Outcome ℕ) : Type 0 where
+  pub answers : (l : List ℤ) → 8192 ≤ length l → loadOf bs l ≡ o
 
 -- ---- the letters
 
 pub record Described (c : Letter) (t : String) : Type 0 where
   pub names : named (bytes t) ≡ c .list
-  pub loads : Loads t (given (length (c .list)))
+  pub loads : Loads (bytes t) (given (length (c .list)))
 
 abbrev pub AllDescribed : List Letter → List String → Type 0
 AllDescribed [] [] = Unit {0}
@@ -59,24 +64,31 @@ descriptions =
 -- ---- edges
 
 pub record Edge : Type 0 where
-  pub text : String
+  pub description : List ℕ
   pub answer : Outcome ℕ
 
 abbrev pub edge : String → Outcome ℕ → Edge
-edge t o = record { text = t; answer = o }
+edge t o = record { description = bytes t; answer = o }
+
+abbrev pub lines : ℕ → String → Outcome ℕ → Edge
+lines n t o = record { description = copies n t; answer = o }
 
 abbrev pub AllLoad : List Edge → Type 0
 AllLoad [] = Unit {0}
-AllLoad (e ∷ es) = Loads (e .text) (e .answer) × AllLoad es
+AllLoad (e ∷ es) = Loads (e .description) (e .answer) × AllLoad es
 
 abbrev pub edges : List Edge
 edges =
+    -- "x 1000 passes, 1001 gives 3; y −250 passes, −251 gives 3; 4,096 corners pass, 4,097 give 4; "12345 0" gives 2; a lone line feed gives 5"
     edge "1000 0" (given 1)
     ∷ edge "1001 0" (refused 3)
     ∷ edge "0 -250" (given 1)
     ∷ edge "0 -251" (refused 3)
+    ∷ lines 4096 "0 0\n" (given 4096)
+    ∷ lines 4097 "0 0\n" (refused 4)
     ∷ edge "12345 0" (refused 2)
     ∷ edge "\n" (refused 5)
+    -- no bytes; blank lines, spaces, −0 and leading zeros
     ∷ edge "" (refused 5)
     ∷ edge " \n\n -0  0007 \n" (given 1)
     -- the first faulty line decides
