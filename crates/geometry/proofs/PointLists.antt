@@ -1,6 +1,7 @@
 -- A list of numbers as points, and points as numbers.
 --
 --   two-suc                 : 2(n + 1) as two more than 2n
+--   two-dropped             : two numbers of a list, and those behind them
 --   length-flat             : the numbers of n points are 2n
 --   flat-append             : the numbers of two lists of points, one after the other
 --   firstPoints-flat        : of those numbers with more behind, the first points are ps
@@ -125,7 +126,7 @@ firstPoints-fewer (suc i) (suc n) (x ∷ y ∷ l) p h m =
 
 -- ---- i points put for the first i points of a list
 
-two-dropped : (l : List ℤ) (k : ℕ) → k + 2 ≤ length l → drop k l ≡ getD l k (pos 0) ∷ getD l (k + 1) (pos 0) ∷ drop (k + 2) l
+pub two-dropped : (l : List ℤ) (k : ℕ) → k + 2 ≤ length l → drop k l ≡ getD l k (pos 0) ∷ getD l (k + 1) (pos 0) ∷ drop (k + 2) l
 two-dropped l k h =
     rw (add-one k, add-two k)
     (drop-cons l k (pos 0) (omega arith) ∙ ap {B = List ℤ} (λ r. getD l k (pos 0) ∷ r) (drop-cons l (suc k) (pos 0) (omega arith)))

@@ -12,14 +12,13 @@ use mathlib.Core.Path.{_≡_, refl, sym, ap, subst, _∙_}
 use mathlib.Core.List.{List, [], _∷_, List·Memᴰ}
 use Prim.Native.Nat.{ℕ, zero, suc, _+_, _*_, _/_, _≤_, _<_}
 use native.Mathlib.Nat.{add-zero}
-use native.Mathlib.Numerals.{add-one, add-two}
 use native.Mathlib.Omega.{arith}
 use lib.IntN.{ℤ, pos}
 use lib.ListN.{length, getD, take, drop, length-take, drop-of-length-le}
-use lib.Seq.{drop-cons, drop-drop, getD-take, getD-drop}
+use lib.Seq.{drop-drop, getD-take, getD-drop}
 use Rattle.geometry.specs.declared.Point.{Point}
 use Rattle.geometry.specs.Points.{points, pointAt, firstPoints}
-use Rattle.geometry.proofs.PointLists.{two-suc, firstPoints-whole, length-firstPoints, pointAt-firstPoints}
+use Rattle.geometry.proofs.PointLists.{two-suc, two-dropped, firstPoints-whole, length-firstPoints, pointAt-firstPoints}
 
 pub drop-points : (i : ℕ) (l : List ℤ) → drop i (points l) ≡ points (drop (2 * i) l)
 unfolding points
@@ -28,17 +27,12 @@ drop-points (suc i) [] = rw (two-suc i)
 drop-points (suc i) (x ∷ []) = rw (two-suc i)
 drop-points (suc i) (x ∷ y ∷ l) = rw (two-suc i) (drop-points i l)
 
-two-from : (l : List ℤ) (k : ℕ) → k + 2 ≤ length l → drop k l ≡ getD l k (pos 0) ∷ getD l (k + 1) (pos 0) ∷ drop (k + 2) l
-two-from l k h =
-    rw (add-one k, add-two k)
-    (drop-cons l k (pos 0) (omega arith) ∙ ap {B = List ℤ} (λ r. getD l k (pos 0) ∷ r) (drop-cons l (suc k) (pos 0) (omega arith)))
-
 pub points-from : (i : ℕ) (l : List ℤ) → 2 * i + 2 ≤ length l → drop i (points l) ≡ pointAt l i ∷ drop (i + 1) (points l)
 unfolding points
 points-from i l h =
     let next : 2 * (i + 1) ≡ 2 * i + 2 = omega arith in
     drop-points i l
-    ∙ ap points (two-from l (2 * i) h)
+    ∙ ap points (two-dropped l (2 * i) h)
     ∙ ap {B = List Point} (λ Q. pointAt l i ∷ Q) (sym (drop-points (i + 1) l ∙ ap (λ (k : ℕ). points (drop k l)) next))
 
 pub points-some : (l : List ℤ) → 2 ≤ length l → 1 ≤ length (points l)

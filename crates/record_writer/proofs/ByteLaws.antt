@@ -1,7 +1,6 @@
 -- The lengths of a record's parts, and the parts stored one behind another.
 --
 --   diskBytes-length, pointBytes-length, pointsBytes-length : those of the layout
---   members-counted       : a support set has one to three points
 --   not-four              : one to three points are no more
 --   madeThree-length      : one to three points are made three
 --   recordBytes-length    : a record has `recordLength` bytes
@@ -20,9 +19,6 @@ use Rattle.big_endian.proofs.ByteLists.{bytesOf-length}
 use Rattle.integers.proofs.Tests.{rest}
 use Rattle.geometry.specs.declared.Point.{Point}
 use Rattle.geometry.specs.declared.Disk.{Disk}
-use Rattle.geometry.specs.declared.SupportSet.{SupportSet}
-use Rattle.geometry.specs.declared.SupportSet.the-variants.{One, Two, Three}
-use Rattle.geometry.specs.Plane.{members}
 use Rattle.validity.specs.Valid.{oneToThree}
 use Rattle.record_writer.specs.Layout.{recordLength, firstAt, pointWidth, xAt, secondAt, thirdAt}
 use Rattle.record_writer.specs.Bytes.{diskBytes, pointBytes, pointsBytes, madeThree, recordBytes}
@@ -41,11 +37,6 @@ pointsBytes-length (p ∷ ps) =
   where
     four : (n : ℕ) → pointWidth + pointWidth * n ≡ pointWidth * suc n
     four n = omega arith
-
-pub members-counted : (t : SupportSet) → oneToThree (members t) ≡ true
-members-counted (One a) = refl
-members-counted (Two a b) = refl
-members-counted (Three a b c) = refl
 
 pub not-four : (a b c p : Point) (ps : List Point) → oneToThree (a ∷ b ∷ c ∷ p ∷ ps) ≡ true → ⊥
 not-four a b c p ps h =

@@ -6,10 +6,11 @@
 --   limits                 : a valid disk keeps to them
 --   scale-limits           : those of E
 --   valid-disk, valid-points    : the two halves of `validIn`
+--   members-counted        : a support set has one to three points
 --   counted, rises, boxed       : the three parts of `validPointsIn`
 --   lowest-reduced, reduced-lowest : the divisor rule says that no number above 1 divides X, Y and E
 --   disk-valid, points-valid, both-valid : what makes a disk and its points valid
-use mathlib.Core.Path.{_≡_, subst}
+use mathlib.Core.Path.{_≡_, refl, subst}
 use mathlib.Core.Bool.{true, _&&_}
 use mathlib.Core.List.{List}
 use Prim.Native.Nat.{ℕ, _*_, _^_, _≤_, _∣_}
@@ -26,6 +27,9 @@ use Rattle.divisors.proofs.LowestTerms.{divides-x, divides-y, divides-e, common
 use Rattle.geometry.specs.declared.Point.{Point}
 use Rattle.geometry.specs.declared.Disk.{Disk}
 use Rattle.geometry.specs.declared.Limits.{Limits}
+use Rattle.geometry.specs.declared.SupportSet.{SupportSet}
+use Rattle.geometry.specs.declared.SupportSet.the-variants.{One, Two, Three}
+use Rattle.geometry.specs.Plane.{members}
 use Rattle.geometry.specs.EmBox.{em, allInBox, largest, WithinLimits}
 use Rattle.geometry.proofs.EmBox.{left-size, right-size, foot-size, top-size}
 use Rattle.validity.specs.Narrow.{Narrow}
@@ -97,6 +101,11 @@ module _ (l : Limits) (ps : List Point) (h : validPointsIn l ps ≡ true) where
   pub boxed : allInBox l ps ≡ true
   unfolding validPointsIn
   boxed = rest (rising ps) (allInBox l ps) (rest (oneToThree ps) (rising ps && allInBox l ps) h)
+
+pub members-counted : (t : SupportSet) → oneToThree (members t) ≡ true
+members-counted (One a) = refl
+members-counted (Two a b) = refl
+members-counted (Three a b c) = refl
 
 -- ---- both
 

@@ -6,10 +6,11 @@ use borrow.Author.Tests.{lt-ltb, le-ltb}
 use borrow.Author.Needs.{needs}
 use lib.ListN.{length}
 use lib.Seq.{sets}
+use Rattle.validity.proofs.ValidLaws.{members-counted}
 use Rattle.geometry.specs.Plane.{members}
 use Rattle.record_writer.specs.Layout.{recordLength, firstAt}
 use Rattle.record_writer.specs.Bytes.{pointsBytes, madeThree}
-use Rattle.record_writer.proofs.ByteLaws.{members-counted, record-stored}
+use Rattle.record_writer.proofs.ByteLaws.{record-stored}
 use Rattle.record_writer.proofs.write_record.Statement.{statement}
 use Rattle.record_writer.proofs.write_record.Tie as tie
 

@@ -1,19 +1,11 @@
 -- `validity::points_are_valid` meets its contract: a support set has one to three points, and the two tests are the row.
-use mathlib.Core.Path.{_≡_, refl, sym, _∙_}
-use mathlib.Core.Bool.{true}
+use mathlib.Core.Path.{sym, _∙_}
 use borrow.Author.Needs.{needs}
+use Rattle.validity.proofs.ValidLaws.{members-counted}
 use Rattle.integers.proofs.Tests.{stop, pass}
-use Rattle.geometry.specs.declared.SupportSet.{SupportSet}
-use Rattle.geometry.specs.declared.SupportSet.the-variants.{One, Two, Three}
-use Rattle.geometry.specs.Plane.{members}
-use Rattle.validity.specs.Valid.{oneToThree, validPointsIn}
+use Rattle.validity.specs.Valid.{validPointsIn}
 use Rattle.validity.proofs.points_are_valid.Statement.{statement}
 use Rattle.validity.proofs.points_are_valid.Tie as tie
-
-counted : (t : SupportSet) → oneToThree (members t) ≡ true
-counted (One a) = refl
-counted (Two a b) = refl
-counted (Three a b c) = refl
 
 is-rising-requires : tie.Need-is-rising-requires
 is-rising-requires c κs = search needs
@@ -24,12 +16,12 @@ all-in-box-requires c κs = search needs
 returns : tie.Need-returns
 unfolding validPointsIn
 returns c =
-    pass (counted (c .before .before .before .args .t))
+    pass (members-counted (c .before .before .before .args .t))
     (pass (sym (c .before .before .is-rising .ensures) ∙ c .before .if1 .taken) (c .all-in-box .ensures))
 
 returns-2 : tie.Need-returns-2
 unfolding validPointsIn
-returns-2 c = pass (counted (c .before .before .args .t)) (stop _ (sym (c .before .is-rising .ensures) ∙ c .if1 .left))
+returns-2 c = pass (members-counted (c .before .before .args .t)) (stop _ (sym (c .before .is-rising .ensures) ∙ c .if1 .left))
 
 pub points-are-valid-spec : {M : Type 1} → statement M
 points-are-valid-spec = tie.close (tie.spec is-rising-requires all-in-box-requires returns returns-2)
