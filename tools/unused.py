@@ -18,7 +18,6 @@ KEPT = {
     r"\S+-spec|main": "the toolchain asks for it",
     r"volkhidar_\w+": "C and Rust call it",
     r"mtf-(empty|full|last)|boundary-smallest": "the rules of B_MTFDISK in the text's own words, of a definition that is put otherwise",
-    r"preview-exact": "the preview's conversions lose nothing, and each division is rounded once",
 }
 
 IMPORT = re.compile(r"\s*(pub |ghost )?use (.*?)(?:\.\{(.*)\}| as ([^\s;]+))?;?$")

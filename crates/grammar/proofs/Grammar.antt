@@ -18,8 +18,9 @@ use Rattle.integers.proofs.Tests.{first, rest, both}
 use Rattle.geometry.specs.declared.Point.{Point}
 use Rattle.numerals.specs.Numeral.{isDigit, allDigits, decimal, someIf, digits, numeral}
 use Rattle.lines.specs.Line.{Line, blank, point, fault, pointOf, lineOfWords, lineOf, wordsOf}
+use Rattle.lines.proofs.OneKind.{blank-fault, blank-point, point-fault, point-same}
 use Rattle.grammar.specs.Grammar.{Without, spaces, IsBlank, IsDigits, IsNumber, plain, minus, IsPointLine, LinesAreThese}
-use Rattle.grammar.proofs.Words.{Open, FirstWord, Words, words-are, words-of, lines-known, lines-read}
+use Rattle.grammar.proofs.Words.{no-word, Open, FirstWord, Words, words-are, words-of, lines-known, lines-read}
 
 -- ---- digits
 
@@ -124,9 +125,6 @@ digits-some [] v h e = none (h .some)
     none k = omega arith
 digits-some (b ∷ ds) v h e = let z : _≡_ {A = ℕ} 0 1 = cc in omega arith
 
-no-word : {b : ℕ} {w : List ℕ} → b ∷ w ≡ [] → ⊥
-no-word e = let z : _≡_ {A = ℕ} 0 1 = cc in omega arith
-
 pub number-some : (w : List ℕ) (z : ℤ) → IsNumber w z → w ≡ [] → ⊥
 number-some w z (plain {ds} {v} h) e = digits-some ds v h e
 number-some w z (minus {ds} {v} h) e = no-word e
@@ -144,17 +142,8 @@ number-bare w z (minus {ds} {v} h) b m e = go (List·Memᴰ·cases-cons m)
 
 -- ---- lines
 
-blank-fault : blank ≡ fault → ⊥
-blank-fault e = let z : _≡_ {A = ℕ} 0 1 = cc in omega arith
-
-blank-point : {p : Point} → blank ≡ point p → ⊥
-blank-point e = let z : _≡_ {A = ℕ} 0 1 = cc in omega arith
-
-fault-point : {p : Point} → fault ≡ point p → ⊥
-fault-point e = let z : _≡_ {A = ℕ} 0 1 = cc in omega arith
-
 pair-not-blank : (x y : Option ℤ) → pointOf x y ≡ blank → ⊥
-pair-not-blank (some x) (some y) e = blank-point (sym e)
+pair-not-blank (some x) (some y) e = blank-point _ (sym e)
 pair-not-blank (some x) none e = blank-fault (sym e)
 pair-not-blank none y e = blank-fault (sym e)
 
@@ -165,9 +154,6 @@ no-words (x ∷ []) e = absurd (blank-fault (sym e))
 no-words (x ∷ y ∷ []) e = absurd (pair-not-blank (numeral x) (numeral y) e)
 no-words (x ∷ y ∷ z ∷ ws) e = absurd (blank-fault (sym e))
 
-point-same : {p q : Point} → point p ≡ point q → p ≡ q
-point-same e = cc
-
 record Pair (ws : List (List ℕ)) (p : Point) : Type 0 where
   x : List ℕ
   y : List ℕ
@@ -177,17 +163,17 @@ record Pair (ws : List (List ℕ)) (p : Point) : Type 0 where
 
 pair-of : (a b : Option ℤ) (p : Point) → pointOf a b ≡ point p → (a ≡ some (p .x)) × (b ≡ some (p .y))
 pair-of (some x) (some y) p e =
-    let same = point-same e in
+    let same = point-same _ p e in
     (ap (λ (q : Point). some (q .x)) same, ap (λ (q : Point). some (q .y)) same)
-pair-of (some x) none p e = absurd (fault-point e)
-pair-of none y p e = absurd (fault-point e)
+pair-of (some x) none p e = absurd (point-fault p (sym e))
+pair-of none y p e = absurd (point-fault p (sym e))
 
 two-words : (ws : List (List ℕ)) (p : Point) → lineOfWords ws ≡ point p → Pair ws p
 unfolding lineOfWords
-two-words [] p e = absurd (blank-point e)
-two-words (x ∷ []) p e = absurd (fault-point e)
+two-words [] p e = absurd (blank-point p e)
+two-words (x ∷ []) p e = absurd (point-fault p (sym e))
 two-words (x ∷ y ∷ []) p e = let k = pair-of (numeral x) (numeral y) p e in record { x = x; y = y; two = refl; x-read = k .0; y-read = k .1 }
-two-words (x ∷ y ∷ z ∷ ws) p e = absurd (fault-point e)
+two-words (x ∷ y ∷ z ∷ ws) p e = absurd (point-fault p (sym e))
 
 -- two words do not touch
 touching : (y r : List ℕ) → (y ≡ [] → ⊥) → Without 32 y → Open (y ++ r) → ⊥
@@ -285,7 +271,7 @@ lines-are-these = record {
   blanks = λ line. (blank-known line, blank-read line);
   points = λ line p. (point-known line p, point-read line p);
   faults = λ line. (
-    λ e. ((λ b. blank-fault (sym (blank-read line b) ∙ e)), (λ p h. fault-point (sym e ∙ point-read line p h))),
+    λ e. ((λ b. blank-fault (sym (blank-read line b) ∙ e)), (λ p h. point-fault p (sym (point-read line p h) ∙ e))),
     λ h. fault-read line (h .0) (h .1),
   );
 }

@@ -13,6 +13,7 @@ use native.Mathlib.Omega.{arith}
 use borrow.Author.Tests.{eqb-true, eqb-false, eq-eqb, ne-eqb}
 use lib.Dec.{eqb}
 use Rattle.lines.specs.Line.{joinPiece, pieces, nonEmpty, linesOf, wordsOf}
+use Rattle.lines.proofs.Words.{some-word}
 use Rattle.grammar.specs.Grammar.{Without, AreLines, no-bytes, at-the-end, ended, spaces}
 
 -- nothing, or a space first
@@ -29,6 +30,9 @@ pub record FirstWord (w line rest : List ℕ) : Type 0 where
 abbrev pub Words : List ℕ → List (List ℕ) → Type 0
 Words line [] = (n : ℕ) × (line ≡ spaces n)
 Words line (w ∷ ws) = (rest : List ℕ) × (FirstWord w line rest × Words rest ws)
+
+pub no-word : {b : ℕ} {w : List ℕ} → b ∷ w ≡ [] → ⊥
+no-word e = let z : _≡_ {A = ℕ} 0 1 = cc in omega arith
 
 -- ---- pieces
 
@@ -100,11 +104,6 @@ unfolding pieces joinPiece nonEmpty
 spaces-none zero = refl
 spaces-none (suc n) = spaces-none n
 
-some-word : (w : List ℕ) (ws : List (List ℕ)) → (w ≡ [] → ⊥) → nonEmpty (w ∷ ws) ≡ w ∷ nonEmpty ws
-unfolding nonEmpty
-some-word [] ws h = absurd (h refl)
-some-word (b ∷ w) ws h = refl
-
 word-alone : (w : List ℕ) → (w ≡ [] → ⊥) → Without 32 w → wordsOf w ≡ w ∷ []
 unfolding nonEmpty
 word-alone [] h k = absurd (h refl)
@@ -148,9 +147,6 @@ abbrev AsWords : List ℕ → Type 0
 AsWords line = (ws : List (List ℕ)) × Words line ws
 
 -- another byte in front: of the first word, where no space is before that, or a word of its own
-no-word : {b : ℕ} {w : List ℕ} → b ∷ w ≡ [] → ⊥
-no-word e = let z : _≡_ {A = ℕ} 0 1 = cc in omega arith
-
 alone : (b : ℕ) (bs : List ℕ) → (b ≡ 32 → ⊥) → Open bs → FirstWord (b ∷ []) (b ∷ bs) bs
 alone b bs d o = record {
   gap = 0;

@@ -21,25 +21,14 @@ use Rattle.geometry.specs.declared.Point.{Point}
 use Rattle.geometry.specs.EmBox.{em, inEmBox, Inside}
 use Rattle.geometry.proofs.EmBox.{inside, inside-test}
 use Rattle.lines.specs.Line.{Line, blank, point, fault}
+use Rattle.lines.proofs.OneKind.{blank-fault, blank-point, point-fault, point-same}
 use Rattle.description.specs.Description.{pointsOn, byLine}
 use Rattle.rules.specs.Row.{Rule, _unless_, DueFirst, AllKept, GoesBy}
 use Rattle.rules.specs.Rules as rules
 use Rattle.rules.specs.Rules.{GoodLine, empty, boxed, AllGood, lineRow, FirstFaulty}
 use Rattle.rules.proofs.RowLaws.{row-end, row-step, due-append, kept-append, row-same, row-kept, rule-kept}
 
--- ---- what a line is, it is alone
-
-blank-fault : blank ≡ fault → ⊥
-blank-fault e = let z : _≡_ {A = ℕ} 0 1 = cc in omega arith
-
-blank-point : (p : Point) → blank ≡ point p → ⊥
-blank-point p e = let z : _≡_ {A = ℕ} 0 1 = cc in omega arith
-
-point-fault : (p : Point) → point p ≡ fault → ⊥
-point-fault p e = let z : _≡_ {A = ℕ} 0 1 = cc in omega arith
-
-point-same : (p q : Point) → point p ≡ point q → p ≡ q
-point-same p q e = cc
+-- ---- one line
 
 fault-bad : GoodLine fault → ⊥
 fault-bad g = go fault g refl
@@ -47,8 +36,6 @@ fault-bad g = go fault g refl
     go : (i : Line) → GoodLine i → i ≡ fault → ⊥
     go blank empty e = blank-fault e
     go (point p) (boxed b) e = point-fault p e
-
--- ---- one line
 
 abbrev here : Line → ℕ
 here blank = 0
