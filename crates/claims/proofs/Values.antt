@@ -49,13 +49,14 @@ use Rattle.validity.proofs.ValidLaws.{valid-disk}
 use Rattle.preview.specs.declared.Preview.{Preview}
 use Rattle.preview.specs.Preview.{negative, quotient, floats, previewOf}
 use Rattle.preview.proofs.Exact.{preview-exact}
+use Rattle.preview.proofs.Finite.{has-finite, round-finite}
 use Rattle.rules.specs.Row.{AllKept, GoesBy}
 use Rattle.rules.specs.Rules.{Bytes, loaderRow, sheetRow, Recordable}
+use Rattle.claims.proofs.Records.{record-long, written-valid}
 use Rattle.claims.specs.Values.{glyphBytes, IsPart, LeastRadius, PreviewIsRight, bits, shownBy, Values}
 use Rattle.rules.proofs.RowLaws.{row-through}
-use Rattle.rules.proofs.Recordables.{known, tested}
+use Rattle.rules.proofs.Recordables.{valid-recordable, recordable-valid}
 use Rattle.rules.proofs.Calls as calls
-use Rattle.claims.proofs.Finite.{has-finite, round-finite}
 
 -- ---- a glyph
 
@@ -121,9 +122,9 @@ least-same d r q a b = le-antisymm (a .least q (b .reaches)) (b .least r (a .rea
 radius : (d : Disk) (ps : List Point) (r : ℕ) → (radiusOf d ps ≡ given r) ↔ (Recordable d ps × LeastRadius d r)
 radius d ps r = (
   λ e. let g = given-by (valid d ps) 7 r (wholeRadius d) (sym e) in
-      let k = known d ps (g .0) in
+      let k = valid-recordable d ps (g .0) in
       (k, subst (LeastRadius d) (sym (g .1)) (radius-least d (k .e-some))),
-  λ h. rw (tested d ps (h .0)) (ap given (least-same d (wholeRadius d) r (radius-least d (h .0 .e-some)) (h .1))),
+  λ h. rw (recordable-valid d ps (h .0)) (ap given (least-same d (wholeRadius d) r (radius-least d (h .0 .e-some)) (h .1))),
 )
 
 -- ---- the preview
@@ -145,7 +146,7 @@ module _ (d : Disk) (ps : List Point) (h : Recordable d ps) where
 
   right : PreviewIsRight d (floats d (wholeRadius d))
   right =
-      let x = preview-exact d (valid-disk em d ps (tested d ps h)) in
+      let x = preview-exact d (valid-disk em d ps (recordable-valid d ps h)) in
       record {
         x-rounded = record {
           over = x .x-exact;
@@ -181,9 +182,9 @@ module _ (d : Disk) (ps : List Point) (h : Recordable d ps) where
 preview : (d : Disk) (ps : List Point) (p : Preview) → (previewOf d ps ≡ given p) ↔ (Recordable d ps × PreviewIsRight d p)
 preview d ps p = (
   λ e. let g = given-by (valid d ps) 7 p (floats d (wholeRadius d)) (sym e) in
-      let k = known d ps (g .0) in
+      let k = valid-recordable d ps (g .0) in
       (k, subst (PreviewIsRight d) (sym (g .1)) (right d ps k)),
-  λ h. rw (tested d ps (h .0)) (ap given (right-same d ps (h .0) p (h .1))),
+  λ h. rw (recordable-valid d ps (h .0)) (ap given (right-same d ps (h .0) p (h .1))),
 )
 
 -- ---- bits
@@ -223,8 +224,8 @@ loader-list t l n e =
 
 reader : (bs : List ℕ) → Bytes bs → (d : Disk) (ps : List Point) → (readOf bs ≡ given (d, ps)) ↔ (Recordable d ps × (bs ≡ recordBytes d ps))
 reader bs bytes d ps = (
-  λ e. let w = written-again bs bytes d ps e in (known d ps (w .0), sym (w .1)),
-  λ h. ap readOf (h .1) ∙ read-written d ps (tested d ps (h .0)),
+  λ e. let w = written-again bs bytes d ps e in (valid-recordable d ps (w .0), sym (w .1)),
+  λ h. ap readOf (h .1) ∙ read-written d ps (recordable-valid d ps (h .0)),
 )
 
 pub all-values : Values
@@ -232,7 +233,7 @@ all-values = record {
   loader = loader;
   loader-list = loader-list;
   reader = reader;
-  writer = λ d ps b e. ap (λ (o : Outcome (Unit {0})). leftBy o d ps b) e;
+  writer = λ d ps b e. (record-long d ps (written-valid d ps b e .1), ap (λ (o : Outcome (Unit {0})). leftBy o d ps b) e);
   glyph-refusals = λ s k. after-glyph s k;
   glyph = λ s k bs. (glyph-part s k bs, part-glyph s k bs);
   radius = radius;

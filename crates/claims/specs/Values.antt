@@ -27,7 +27,6 @@ use Rattle.geometry.specs.declared.Disk.{Disk}
 use Rattle.geometry.specs.Points.{flat}
 use Rattle.description.specs.Description.{named, loadOf, listAfter}
 use Rattle.sheet.specs.Sheet.{pair, glyphOf, partOf}
-use Rattle.record_writer.specs.Layout.{recordLength}
 use Rattle.record_writer.specs.Bytes.{recordBytes}
 use Rattle.radius.specs.Radius.{radiusOf}
 use Rattle.record_reader.specs.Reading.{readOf}
@@ -97,7 +96,9 @@ pub record Values : Type 0 where
   -- a record is read as the disk and the points whose record its bytes are
   pub reader : (bs : List ℕ) → Bytes bs → (d : Disk) (ps : List Point) → (readOf bs ≡ given (d, ps)) ↔ (Recordable d ps × (bs ≡ recordBytes d ps))
   -- "The writer fills the first 44 bytes and leaves the rest"
-  pub writer : (d : Disk) (ps : List Point) (b : List ℕ) → writeOf d ps b ≡ given tt → bufferAfter d ps b ≡ recordBytes d ps ++ drop recordLength b
+  pub writer :
+      (d : Disk) (ps : List Point) (b : List ℕ) → writeOf d ps b ≡ given tt
+      → (length (recordBytes d ps) ≡ 44) × (bufferAfter d ps b ≡ recordBytes d ps ++ drop 44 b)
   -- "The cutting radius is the least whole number R, 0 or more, with R²E² at least S"
   pub radius : (d : Disk) (ps : List Point) (r : ℕ) → (radiusOf d ps ≡ given r) ↔ (Recordable d ps × LeastRadius d r)
   -- "The preview is three f64 values: .."

@@ -45,10 +45,10 @@ AllDescribed [] (t ∷ ts) = ⊥
 AllDescribed (c ∷ cs) [] = ⊥
 AllDescribed (c ∷ cs) (t ∷ ts) = Described c t × AllDescribed cs ts
 
--- A to K
+-- A to K, the files of letters/
 abbrev pub descriptions : List String
 descriptions =
-    "0 0"
+    "0 0\n"
     ∷ "0 0\n3 0\n"
     ∷ "0 0\n4 0\n"
     ∷ "0 0\n10 0\n0 10\n10 10\n"

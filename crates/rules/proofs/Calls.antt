@@ -32,7 +32,7 @@ use Rattle.rules.specs.Row.{GoesBy}
 use Rattle.rules.specs.Rules.{Bytes, IsRecord, loaderRow, sheetRow, engineRow, writerRow, readerRow, diskRow}
 use Rattle.rules.proofs.RowLaws.{row-end, row-step}
 use Rattle.geometry.proofs.EmBox.{all-inside, inside-all}
-use Rattle.rules.proofs.Recordables.{known, tested}
+use Rattle.rules.proofs.Recordables.{valid-recordable, recordable-valid}
 use Rattle.rules.proofs.Sheets.{in-order, ordered}
 use Rattle.rules.proofs.Lines.{lines-judged}
 
@@ -99,7 +99,7 @@ engine l =
 
 -- one check of a disk and its points, and then a value
 checked : {A : Type 0} (d : Disk) (ps : List Point) (a : A) → GoesBy (diskRow d ps) (refuseIf (not (valid d ps)) 7 (given a))
-checked d ps a = row-step (not (valid d ps)) 7 (λ h r. fails h (tested d ps r)) (λ h. known d ps (not-false (valid d ps) h)) (λ r. row-end a)
+checked d ps a = row-step (not (valid d ps)) 7 (λ h r. fails h (recordable-valid d ps r)) (λ h. valid-recordable d ps (not-false (valid d ps) h)) (λ r. row-end a)
 
 pub writer : (d : Disk) (ps : List Point) (b : List ℕ) → GoesBy (writerRow d ps b) (writeOf d ps b)
 writer d ps b =
@@ -109,7 +109,7 @@ writer d ps b =
 -- bytes that are a record are read as it
 record-valid : (bs : List ℕ) → IsRecord bs → valid (diskIn bs) (pointsIn bs) ≡ true
 record-valid bs r =
-    let read = ap readOf (r .bytes) ∙ read-written (r .disk) (r .support) (tested (r .disk) (r .support) (r .recordable)) in
+    let read = ap readOf (r .bytes) ∙ read-written (r .disk) (r .support) (recordable-valid (r .disk) (r .support) (r .recordable)) in
     let v = valid (diskIn bs) (pointsIn bs) in
     let long = not-refused (not (eqb (length bs) recordLength)) 7 read in
     not-false v (not-refused (not v) 7 (long .1) .0)
@@ -127,7 +127,7 @@ reader bs bytes =
         record {
           disk = diskIn bs;
           support = pointsIn bs;
-          recordable = known (diskIn bs) (pointsIn bs) v;
+          recordable = valid-recordable (diskIn bs) (pointsIn bs) v;
           bytes = sym (written-again bs bytes (diskIn bs) (pointsIn bs) read .1);
         }
 

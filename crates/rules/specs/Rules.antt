@@ -129,7 +129,7 @@ pub record IsRecord (bs : List ℕ) : Type 0 where
   pub recordable : Recordable disk support
   pub bytes : bs ≡ recordBytes disk support
 
--- "Writer: 8, 7."
+-- "Writer: 8, 7."; a record has 44 bytes (record_writer/specs/Layout.antt)
 abbrev pub writerRow : Disk → List Point → List ℕ → List Rule
 writerRow d ps buffer = 8 unless (recordLength ≤ length buffer) ∷ 7 unless Recordable d ps ∷ []
 
