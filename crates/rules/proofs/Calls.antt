@@ -99,7 +99,8 @@ engine l =
 
 -- one check of a disk and its points, and then a value
 checked : {A : Type 0} (d : Disk) (ps : List Point) (a : A) → GoesBy (diskRow d ps) (refuseIf (not (valid d ps)) 7 (given a))
-checked d ps a = row-step (not (valid d ps)) 7 (λ h r. fails h (recordable-valid d ps r)) (λ h. valid-recordable d ps (not-false (valid d ps) h)) (λ r. row-end a)
+checked d ps a =
+    row-step (not (valid d ps)) 7 (λ h r. fails h (recordable-valid d ps r)) (λ h. valid-recordable d ps (not-false (valid d ps) h)) (λ r. row-end a)
 
 pub writer : (d : Disk) (ps : List Point) (b : List ℕ) → GoesBy (writerRow d ps b) (writeOf d ps b)
 writer d ps b =

@@ -14,7 +14,8 @@ use Rattle.geometry.specs.EmBox.{em}
 use Rattle.geometry.proofs.EmBox.{all-inside, inside-all}
 use Rattle.point_lists.proofs.Rising.{rising-test}
 use Rattle.validity.specs.Valid.{valid}
-use Rattle.validity.proofs.ValidLaws.{limits, valid-disk, valid-points, counted, rises, boxed, valid-lowest, valid-within, disk-valid, points-valid, both-valid}
+use Rattle.validity.proofs.ValidLaws.{limits, valid-disk, valid-points, counted, rises, boxed, valid-lowest, valid-within}
+use Rattle.validity.proofs.ValidLaws.{disk-valid, points-valid, both-valid}
 use Rattle.rules.specs.Rules.{Recordable}
 
 pub valid-recordable : (d : Disk) (ps : List Point) → valid d ps ≡ true → Recordable d ps
