@@ -17,7 +17,6 @@ import sys
 KEPT = {
     r"\S+-spec|main": "the toolchain asks for it",
     r"volkhidar_\w+": "C and Rust call it",
-    r"preview-exact": "the preview's conversions lose nothing, and each division is rounded once",
 }
 
 IMPORT = re.compile(r"\s*(pub |ghost )?use (.*?)(?:\.\{(.*)\}| as ([^\s;]+))?;?$")

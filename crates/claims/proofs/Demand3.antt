@@ -42,6 +42,7 @@ use Rattle.preview.specs.Preview.{floats, previewOf}
 use Rattle.letter.specs.Letter.{enclosureIn}
 use Rattle.letter.proofs.ValidAnswer.{valid-enclosure}
 use Rattle.letter.proofs.Whole.{enclosure-given, enclosure-valid}
+use Rattle.claims.specs.Values.{bits}
 use Rattle.claims.specs.Demand3.{ProcedureIsWelzls, AcceptedDescription, Answers, worked, WorkedOut, Demand3}
 use Rattle.claims.proofs.Records.{written, in-front, filled}
 use Rattle.claims.proofs.Demand2.{engine-right}
@@ -109,8 +110,8 @@ module _ {l m : List ℤ} {bs cs : List ℕ} (w : WorkedOut l bs) (v : WorkedOut
 loaded : {t : List ℕ} (a : AcceptedDescription t) (l : List ℤ) → 8192 ≤ length l → loadOf t l ≡ given (a .count)
 loaded {t} a l h = load-same t l (a .list) h (accepted-room t (a .list) (a .count) (a .loads)) ∙ a .loads
 
-abbrev answers : Disk → List Point → Answers
-answers d S = record { disk-given = d; support = S; radius = wholeRadius d; shown = floats d (wholeRadius d); bytes = recordBytes d S }
+abbrev pub answers : Disk → List Point → Answers
+answers d S = record { disk-given = d; support = S; radius = wholeRadius d; shown = bits (floats d (wholeRadius d)); bytes = recordBytes d S }
 
 module _ {t : List ℕ} (a : AcceptedDescription t) (l : List ℤ) (b : List ℕ) (long : 8192 ≤ length l) (room : recordLength ≤ length b) where
   loads : loadOf t l ≡ given (a .count)
@@ -131,7 +132,7 @@ module _ {t : List ℕ} (a : AcceptedDescription t) (l : List ℤ) (b : List ℕ
   shows : previewOf (diskOf (named t)) (firstSupport (named t)) ≡ given (floats (diskOf (named t)) (wholeRadius (diskOf (named t))))
   shows = rw valid-named
 
-  worked-is : worked t l b ≡ given (answers (diskOf (named t)) (firstSupport (named t)))
+  pub worked-is : worked t l b ≡ given (answers (diskOf (named t)) (firstSupport (named t)))
   unfolding worked
   worked-is = rw (encloses, reaches, shows, writes, in-front (diskOf (named t)) (firstSupport (named t)) b valid-named)
 

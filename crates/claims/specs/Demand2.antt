@@ -1,5 +1,5 @@
--- Demand 2 of document 00, over the definitions that the contracts of `engine::smallest_disk`, `record::write_record` and
--- `record::read_record` cite. It is shown in proofs/Demand2.antt.
+-- Demand 2 of document 00, over the definitions that the contracts of `engine::smallest_disk`, `record_writer::write_record` and
+-- `record_reader::read_record` cite. It is shown in proofs/Demand2.antt.
 --
 --   EngineIsRight    == "The round given is the smallest enclosing disk of Welzl's paper: it holds every corner, no disk with a fractional
 --                       centre and fractional squared radius that holds them all has a smaller squared radius, and only the same disk has
@@ -9,9 +9,9 @@
 --   Demand2          == both
 use mathlib.Core.Path.{_≡_}
 use mathlib.Core.List.{List}
-use Prim.Native.Nat.{ℕ, _≤_, _<_}
+use Prim.Native.Nat.{ℕ, _≤_}
 use lib.IntN.{ℤ}
-use lib.ListN.{length, take, getD}
+use lib.ListN.{length, take}
 use Rattle.answers.specs.Outcome.{given}
 use Rattle.geometry.specs.declared.Point.{Point}
 use Rattle.geometry.specs.declared.Disk.{Disk}
@@ -23,6 +23,7 @@ use Rattle.engine.specs.Engine.{Enclosure, encloseOf}
 use Rattle.record_writer.specs.Layout.{recordLength}
 use Rattle.record_writer.specs.Writing.{writeOf, bufferAfter}
 use Rattle.record_reader.specs.Reading.{readOf}
+use Rattle.rules.specs.Rules.{Bytes}
 
 -- of the answer e for the points P
 pub record EngineIsRight (P : List Point) (e : Enclosure) : Type 0 where
@@ -31,10 +32,6 @@ pub record EngineIsRight (P : List Point) (e : Enclosure) : Type 0 where
   pub limits : WithinLimits em (e .disk)
   pub first-support : IsFirstSupport P (e .support)
   pub no-other-support : (S : List Point) → IsFirstSupport P S → S ≡ e .support
-
--- a list of bytes
-abbrev pub Bytes : List ℕ → Type 0
-Bytes bs = (i : ℕ) → getD bs i 0 < 256
 
 pub record RecordsGoRound : Type 0 where
   -- what is written, in any buffer that is not refused, is read back

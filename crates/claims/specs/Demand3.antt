@@ -4,7 +4,7 @@
 --                           function `mtf`, and of document 01's own words (`Runs`); the order left is a permutation, and the count is at
 --                           most (n³ + 5n) / 6
 --   AcceptedDescription  == a description that the loader, lent some list, does not refuse
---   Answers              == what the calls give for a description: disk, support set, whole radius, preview and record
+--   Answers              == what the calls give for a description: disk, support set, whole radius, the preview's bits and the record
 --   worked t l b         == the calls one after another for the description t, lent the list l and the buffer b: loader, then engine, given
 --                           the loader's points alone (letter: `enclosureIn`); whole radius, preview and writer, given what the engine returned
 --   WorkedOut l bs       == bs is a record worked out for the accepted list l, in some buffer that the writer does not refuse
@@ -26,12 +26,12 @@ use Rattle.disks.specs.Runs.{Runs}
 use Rattle.disks.specs.FirstSupport.{IsFirstSupport}
 use Rattle.description.specs.Description.{loadOf, named}
 use Rattle.engine.specs.Engine.{Enclosure, encloseOf, listAfter}
-use Rattle.preview.specs.declared.Preview.{Preview}
 use Rattle.preview.specs.Preview.{previewOf}
 use Rattle.record_writer.specs.Layout.{recordLength}
 use Rattle.radius.specs.Radius.{radiusOf}
 use Rattle.record_writer.specs.Writing.{writeOf, bufferAfter}
 use Rattle.letter.specs.Letter.{enclosureIn}
+use Rattle.claims.specs.Values.{bits}
 
 -- ---- the procedure
 
@@ -62,7 +62,8 @@ pub record Answers : Type 0 where
   pub disk-given : Disk
   pub support : List Point
   pub radius : ℕ
-  pub shown : Preview
+  -- the bits of the preview's three values
+  pub shown : List ℕ
   pub bytes : List ℕ
 
 unfoldable pub worked : List ℕ → List ℤ → List ℕ → Outcome Answers
@@ -71,7 +72,13 @@ worked t l b =
     andThen (radiusOf (e .disk) (e .support)) (λ r.
     andThen (previewOf (e .disk) (e .support)) (λ p.
     andThen (writeOf (e .disk) (e .support) b) (λ done.
-    given (record { disk-given = e .disk; support = e .support; radius = r; shown = p; bytes = take recordLength (bufferAfter (e .disk) (e .support) b) })))))
+    given (record {
+      disk-given = e .disk;
+      support = e .support;
+      radius = r;
+      shown = bits p;
+      bytes = take recordLength (bufferAfter (e .disk) (e .support) b);
+    })))))
 
 -- ---- records worked out
 

@@ -1,12 +1,12 @@
 -- Points in the box of limits.
 --
---   Inside l p   == p lies in the box, by its four inequalities
---   inside       : so it does where the test says so
+--   inside, inside-test : a point lies in the box, by its four inequalities, where and only where the test says so
 --   left-size, right-size, foot-size, top-size : no limit of the box is larger, in size, than the largest
 --   point-size   : no coordinate of a point in the box is larger, in size, than the largest
 --   right-of     : every point of the em box is to the right of `leftOfBox`
 --   box-members  : each point of a list that is in the em box is
 --   members-box  : a list whose points all are is
+--   all-inside, inside-all : the same by the four inequalities
 use mathlib.Core.Path.{_≡_, refl, sym, subst}
 use mathlib.Core.Logic.{_⊎_, inl, inr}
 use mathlib.Core.Bool.{true}
@@ -15,19 +15,13 @@ use Prim.Native.Nat.{ℕ, max, _≤_}
 use native.Mathlib.Nat.{le-trans, le-max-left, le-max-right}
 use lib.Dec.{T}
 use lib.IntN.{natAbs}
-use lib.Signed.{_≤ℤ_, _<ℤ_}
+use lib.Signed.{_<ℤ_, leZ}
 use Rattle.integers.specs.Order.{between}
 use Rattle.integers.proofs.Order.{<-≤-trans}
-use Rattle.integers.proofs.Tests.{first, rest, pass, test-true, true-test, between-most, between-low, between-high}
+use Rattle.integers.proofs.Tests.{first, rest, pass, both, test-true, true-test, between-most, between-low, between-high}
 use Rattle.geometry.specs.declared.Point.{Point}
 use Rattle.geometry.specs.declared.Limits.{Limits}
-use Rattle.geometry.specs.EmBox.{em, leftOfBox, inBox, allInBox, inEmBox, allInEmBox, largest}
-
-pub record Inside (l : Limits) (p : Point) : Type 0 where
-  pub from-left : l .left ≤ℤ p .x
-  pub to-right : p .x ≤ℤ l .right
-  pub from-foot : l .foot ≤ℤ p .y
-  pub to-top : p .y ≤ℤ l .top
+use Rattle.geometry.specs.EmBox.{em, leftOfBox, inBox, allInBox, inEmBox, allInEmBox, Inside, largest}
 
 module _ (l : Limits) where
   abbrev across : ℕ
@@ -72,6 +66,12 @@ module _ (l : Limits) (p : Point) (h : inBox l p ≡ true) where
 pub right-of : (p : Point) → inEmBox p ≡ true → leftOfBox <ℤ p .x
 right-of p h = <-≤-trans (record { lt = tt }) (inside em p h .from-left)
 
+pub inside-test : (l : Limits) (p : Point) → Inside l p → inBox l p ≡ true
+unfolding inBox
+inside-test l p i =
+    both (both (test-true (leZ (l .left) (p .x)) (i .from-left .le)) (test-true (leZ (p .x) (l .right)) (i .to-right .le)))
+    (both (test-true (leZ (l .foot) (p .y)) (i .from-foot .le)) (test-true (leZ (p .y) (l .top)) (i .to-top .le)))
+
 pub box-members : (P : List Point) → allInEmBox P ≡ true → (p : Point) → List·Memᴰ p P → T (inEmBox p)
 unfolding allInBox
 box-members [] h p i = absurd (List·Memᴰ·not-nil i)
@@ -85,3 +85,9 @@ pub members-box : (P : List Point) → ((p : Point) → List·Memᴰ p P → T (
 unfolding allInBox
 members-box [] h = refl
 members-box (p ∷ P) h = sym (pass (test-true (inEmBox p) (h p (List·Memᴰ·head refl))) (sym (members-box P (λ q i. h q (List·Memᴰ·tail i)))))
+
+pub all-inside : (P : List Point) → allInEmBox P ≡ true → (p : Point) → List·Memᴰ p P → Inside em p
+all-inside P h p i = inside em p (test-true (inEmBox p) (box-members P h p i))
+
+pub inside-all : (P : List Point) → ((p : Point) → List·Memᴰ p P → Inside em p) → allInEmBox P ≡ true
+inside-all P h = members-box P (λ p i. true-test (inside-test em p (h p i)))

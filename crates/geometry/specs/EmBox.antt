@@ -5,6 +5,7 @@
 --   inBox l p        == p lies in the box of the limits l
 --   allInBox l ps    == every point of ps does
 --   inEmBox, allInEmBox == the same for the em box
+--   Inside l p       == p lies in the box, by its four inequalities (proofs/EmBox.antt: the test holds where and only where this does)
 --   WithinLimits l d == the disk d keeps to the limits l: E, S/E², and the centre in the box
 --   largest l        == how large a coordinate in the box can be, in size: what inner contracts ask of numbers
 use mathlib.Core.Bool.{Bool, true, _&&_}
@@ -34,6 +35,12 @@ inEmBox p = inBox em p
 
 abbrev pub allInEmBox : List Point → Bool
 allInEmBox ps = allInBox em ps
+
+pub record Inside (l : Limits) (p : Point) : Type 0 where
+  pub from-left : l .left ≼ p .x
+  pub to-right : p .x ≼ l .right
+  pub from-foot : l .foot ≼ p .y
+  pub to-top : p .y ≼ l .top
 
 pub record WithinLimits (l : Limits) (d : Disk) : Type 0 where
   pub e-most : d .e ≤ l .scale

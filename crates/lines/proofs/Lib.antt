@@ -1,2 +1,3 @@
+pub mod OneKind
 pub mod Words
 pub mod Lines

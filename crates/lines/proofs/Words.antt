@@ -1,5 +1,6 @@
 -- Lines and words at the front of the bytes.
 --
+--   some-word      : a word that is some is kept
 --   pieces-first   : the first piece goes up to the separator, and the others are those behind it
 --   lines-first    : the same of lines
 --   words-spaces   : spaces at the front do not matter
@@ -94,7 +95,7 @@ unfolding from
 words-behind [] = refl
 words-behind (b ∷ l) = words-behind-step (isSpace b) b l refl (words-behind l)
 
-some-word : (w : List ℕ) (ws : List (List ℕ)) → (w ≡ [] → ⊥) → nonEmpty (w ∷ ws) ≡ w ∷ nonEmpty ws
+pub some-word : (w : List ℕ) (ws : List (List ℕ)) → (w ≡ [] → ⊥) → nonEmpty (w ∷ ws) ≡ w ∷ nonEmpty ws
 unfolding nonEmpty
 some-word [] ws h = absurd (h refl)
 some-word (b ∷ w) ws h = refl

@@ -1,6 +1,5 @@
 -- Whole numbers up to 2^53 are floats without loss, so a quotient is the fraction itself, rounded once.
 --
---   negative z          == z is below 0
 --   in-float            : the cast to a float is taken
 --   exact               : the float that it gives stands for the number
 --   quotient-rounds     : the quotient of two such floats is the fraction of the two numbers, rounded once
@@ -24,13 +23,9 @@ use Rattle.validity.specs.Valid.{validDisk}
 use Rattle.radius.specs.Radius.{wholeRadius}
 use Rattle.validity.proofs.ValidLaws.{limits}
 use Rattle.radius.proofs.RadiusLaws.{radius-limit}
-use Rattle.preview.specs.Preview.{quotient}
+use Rattle.preview.specs.Preview.{negative, quotient}
 
 -- ---- whole numbers
-
-abbrev pub negative : ℤ → Bool
-negative (pos n) = false
-negative (negsuc n) = true
 
 -- the cast is taken
 pub in-float : (z : ℤ) → natAbs z ≤ 2 ^ 53 → T (inFloat binary64 z)

@@ -7,7 +7,7 @@
 --   given-within               : a part that is given lies within the sheet, behind the directory
 --   given-part                 : `part` hands over exactly its bytes, and as many as its length says
 --   Apart s i j                == part i ends no later than part j starts
---   pairs-sorted               : of a sheet that gives a glyph each part ends before a later one starts; so the pairs are sorted by offset
+--   pairs-sorted               : where the rule holds, each part ends before a later one starts; so the pairs are sorted by offset
 use mathlib.Core.Path.{_≡_, sym, ap, _∙_, subst, subst₂}
 use mathlib.Core.Bool.{Bool, true, not, _&&_}
 use mathlib.Core.List.{List, _∷_}
@@ -132,8 +132,8 @@ pairs-apart s l end i (suc n) (suc j) d h k =
     subst₂ (Apart s) a b (pairs-apart s l (p .start + p .len) (suc i) n j d (follow-rest end l p (pairs s (suc i) n) h) (omega arith))
 
 -- so the pairs are sorted by offset
-pub pairs-sorted : (s : List ℕ) (k : ℕ) (p : Place) → glyphOf s k ≡ given p → (i j : ℕ) → i < j → j < count s → Apart s i j
-pairs-sorted s k p h i j a b =
+pub pairs-sorted : (s : List ℕ) → follow (directoryEnd s) (length s) (pairs s 0 (count s)) ≡ true → (i j : ℕ) → i < j → j < count s → Apart s i j
+pairs-sorted s h i j a b =
     let e : 0 + i ≡ i = omega arith in
     let f : 0 + (i + suc (j - suc i)) ≡ j = omega arith in
-    subst₂ (Apart s) e f (pairs-apart s (length s) (directoryEnd s) 0 (count s) i (j - suc i) (given-pair s k p h .rule) (omega arith))
+    subst₂ (Apart s) e f (pairs-apart s (length s) (directoryEnd s) 0 (count s) i (j - suc i) h (omega arith))

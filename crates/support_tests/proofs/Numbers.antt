@@ -27,9 +27,9 @@ use Rattle.integers.proofs.Order.{pos-le, nn-nat, nonneg, le, _⊞_, _⊠_}
 use Rattle.integers.proofs.Ring.{poly}
 use Rattle.geometry.specs.declared.Point.{Point}
 use Rattle.geometry.specs.declared.Disk.{Disk}
-use Rattle.geometry.specs.EmBox.{em, inEmBox, largest, WithinLimits}
+use Rattle.geometry.specs.EmBox.{em, inEmBox, Inside, largest, WithinLimits}
 use Rattle.geometry.proofs.Coordinates.{widened}
-use Rattle.geometry.proofs.EmBox.{Inside, inside}
+use Rattle.geometry.proofs.EmBox.{inside}
 use Rattle.disks.proofs.Answer.{side}
 use Rattle.support_tests.specs.Tests.{midway, SmallPair, SmallDisk}
 

@@ -8,6 +8,7 @@
 --   valid-disk, valid-points    : the two halves of `validIn`
 --   members-counted        : a support set has one to three points
 --   counted, rises, boxed       : the three parts of `validPointsIn`
+--   valid-lowest, valid-within  : a valid disk is in lowest terms, and within the limits
 --   lowest-reduced, reduced-lowest : the divisor rule says that no number above 1 divides X, Y and E
 --   disk-valid, points-valid, both-valid : what makes a disk and its points valid
 use mathlib.Core.Path.{_≡_, refl, subst}
@@ -22,7 +23,7 @@ use lib.Signed.{leZ}
 use Rattle.integers.specs.Order.{between, _≼_}
 use Rattle.divisors.specs.Divisor.{common, Reduced}
 use Rattle.integers.proofs.Abs.{abs-*}
-use Rattle.integers.proofs.Tests.{between-most, first, rest, both, test-true, true-test}
+use Rattle.integers.proofs.Tests.{between-most, between-low, between-high, first, rest, both, test-true, true-test}
 use Rattle.divisors.proofs.LowestTerms.{divides-x, divides-y, divides-e, common-greatest}
 use Rattle.geometry.specs.declared.Point.{Point}
 use Rattle.geometry.specs.declared.Disk.{Disk}
@@ -129,6 +130,34 @@ reduced-lowest d h =
     let x = d .x in
     let y = d .y in
     let e = d .e in eq-eqb (common x y e) 1 (h (common x y e) (divides-x x y e) (divides-y x y e) (divides-e x y e))
+
+-- ---- what a valid disk is, by its meaning
+
+module _ (l : Limits) (d : Disk) (h : validDiskIn l d ≡ true) where
+  behind-scale : isLowest d && (centreInBox l d && squareInLimit l d) ≡ true
+  unfolding validDiskIn
+  behind-scale = rest (scaleInLimit l d) (isLowest d && (centreInBox l d && squareInLimit l d)) h
+
+  pub valid-lowest : Reduced (d .x) (d .y) (d .e)
+  valid-lowest = lowest-reduced d (first (isLowest d) (centreInBox l d && squareInLimit l d) behind-scale)
+
+  pub valid-within : WithinLimits l d
+  unfolding centreInBox
+  valid-within =
+      let e = pos (d .e) in
+      let in-x = between (l .left *ℤ e) (d .x) (l .right *ℤ e) in
+      let in-y = between (l .foot *ℤ e) (d .y) (l .top *ℤ e) in
+      let centre = first (centreInBox l d) (squareInLimit l d) (rest (isLowest d) (centreInBox l d && squareInLimit l d) behind-scale) in
+      let x = first in-x in-y centre in
+      let y = rest in-x in-y centre in
+      record {
+        e-most = limits l d h .e-small;
+        s-most = limits l d h .s-small;
+        x-low = between-low (l .left *ℤ e) (d .x) (l .right *ℤ e) x;
+        x-high = between-high (l .left *ℤ e) (d .x) (l .right *ℤ e) x;
+        y-low = between-low (l .foot *ℤ e) (d .y) (l .top *ℤ e) y;
+        y-high = between-high (l .foot *ℤ e) (d .y) (l .top *ℤ e) y;
+      }
 
 -- ---- what makes them valid
 

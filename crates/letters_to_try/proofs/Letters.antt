@@ -11,41 +11,28 @@ use Rattle.disks.specs.Support.{fronted, choose, sameDisk, supports, firstOf, f
 use Rattle.engine.specs.Engine.{encloseOf, listAfter}
 use Rattle.integers.specs.Least.{least, firstFrom}
 use Rattle.validity.specs.Valid.{centreInBox, validDiskIn, validPointsIn, validIn}
-use Rattle.claims.specs.Letters.{letters, AllHold}
+use Rattle.letters_to_try.specs.Letters.{letters, AllHold}
+
+-- one after another
+infixr 5 _&_
+pub _&_ : {A B : Type 0} → A → B → A × B
+a & b = (a, b)
 
 pub letters-hold : AllHold letters
 unfolding gcd steps holds inBox allInBox before points flat
     outside lowestTerms diameterDisk turnedBy circle boundaryDisk tested step through run
     insert sorted fronted choose sameDisk supports firstOf firstSupport
     encloseOf listAfter least firstFrom centreInBox validDiskIn rising validPointsIn validIn
-letters-hold = (
-  record { answer = refl; order = refl; whole = refl },
-  (
-    record { answer = refl; order = refl; whole = refl },
-    (
-      record { answer = refl; order = refl; whole = refl },
-      (
-        record { answer = refl; order = refl; whole = refl },
-        (
-          record { answer = refl; order = refl; whole = refl },
-          (
-            record { answer = refl; order = refl; whole = refl },
-            (
-              record { answer = refl; order = refl; whole = refl },
-              (
-                record { answer = refl; order = refl; whole = refl },
-                (
-                  record { answer = refl; order = refl; whole = refl },
-                  (
-                    record { answer = refl; order = refl; whole = refl },
-                    (record { answer = refl; order = refl; whole = refl }, tt),
-                  ),
-                ),
-              ),
-            ),
-          ),
-        ),
-      ),
-    ),
-  ),
-)
+letters-hold =
+    record { answer = refl; order = refl; whole = refl }
+    & record { answer = refl; order = refl; whole = refl }
+    & record { answer = refl; order = refl; whole = refl }
+    & record { answer = refl; order = refl; whole = refl }
+    & record { answer = refl; order = refl; whole = refl }
+    & record { answer = refl; order = refl; whole = refl }
+    & record { answer = refl; order = refl; whole = refl }
+    & record { answer = refl; order = refl; whole = refl }
+    & record { answer = refl; order = refl; whole = refl }
+    & record { answer = refl; order = refl; whole = refl }
+    & record { answer = refl; order = refl; whole = refl }
+    & tt

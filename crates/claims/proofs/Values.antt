@@ -1,0 +1,246 @@
+-- What the calls give is what specs/Values.antt says.
+--
+--   glyph-part, part-glyph  : the bytes of glyph k are its part of the sheet
+--   radius-least            : the whole radius is least
+--   right, right-same       : the preview is right, and no other is
+--   bits-back               : its bits are those of its values
+--   all-values              : Values
+use mathlib.Core.Path.{_≡_, refl, sym, ap, _∙_, subst}
+use mathlib.Core.Logic.{_↔_}
+use mathlib.Core.Bool.{false, true≢false}
+use mathlib.Core.List.{List, [], _∷_, _++_}
+use Prim.Native.Nat.{ℕ, _*_, _≤_, _<_}
+use native.Mathlib.Nat.{le-antisymm, le-trans, le-of-eq, mul-le-mul-right, lt-of-not-le, le-of-suc-le-suc}
+use native.Mathlib.Omega.{arith}
+use borrow.Author.Tests.{le-leb, leb-true}
+use lib.Dec.{T}
+use lib.IntN.{ℤ, pos, natAbs, _*ℤ_}
+use lib.ListN.{length, take, drop, take-append-drop}
+use lib.Seq.{length-take-le, take-at, drop-at}
+use lib.Signed.{leZ}
+use lib.Ieee.{Float, binary64, ofInt}
+use lib.Ieee.Bits.{ofBits-toBits}
+use lib.Ieee.Fits.{div-fits, ofInt-fits}
+use lib.Ieee.Scale.{finite}
+use Rattle.answers.specs.Outcome.{Outcome, given, refused, andThen}
+use Rattle.answers.proofs.OutcomeLaws.{not-given, given-same, given-by}
+use Rattle.integers.proofs.Abs.{abs-*}
+use Rattle.integers.specs.Order.{_≼_}
+use Rattle.integers.proofs.Tests.{both, test-true, between-most}
+use Rattle.geometry.specs.declared.Point.{Point}
+use Rattle.geometry.specs.declared.Disk.{Disk}
+use Rattle.geometry.specs.Points.{flat}
+use Rattle.geometry.specs.EmBox.{em, largest}
+use Rattle.geometry.proofs.EmBox.{left-size, right-size, foot-size, top-size}
+use Rattle.geometry.proofs.PointLists.{length-flat}
+use Rattle.description.specs.Description.{named, loadOf, listAfter}
+use Rattle.description.proofs.Loading.{after-given}
+use Rattle.description.proofs.AcceptedTexts.{accepted-count}
+use Rattle.sheet.specs.Sheet.{Place, glyphOf, partOf}
+use Rattle.sheet.proofs.Parts.{given-pair, given-within, given-part}
+use Rattle.validity.specs.Valid.{valid}
+use Rattle.record_writer.specs.Bytes.{recordBytes}
+use Rattle.record_writer.specs.Writing.{leftBy}
+use Rattle.record_reader.specs.Reading.{readOf}
+use Rattle.radius.specs.Radius.{reaches, wholeRadius, radiusOf}
+use Rattle.record_reader.proofs.RoundTrip.{read-written, written-again}
+use Rattle.radius.proofs.RadiusLaws.{radius-is-least}
+use Rattle.validity.proofs.ValidLaws.{valid-disk}
+use Rattle.preview.specs.declared.Preview.{Preview}
+use Rattle.preview.specs.Preview.{negative, quotient, floats, previewOf}
+use Rattle.preview.proofs.Exact.{preview-exact}
+use Rattle.preview.proofs.Finite.{has-finite, round-finite}
+use Rattle.rules.specs.Row.{AllKept, GoesBy}
+use Rattle.rules.specs.Rules.{Bytes, loaderRow, sheetRow, Recordable}
+use Rattle.claims.proofs.Records.{record-long, written-valid}
+use Rattle.claims.specs.Values.{glyphBytes, IsPart, LeastRadius, PreviewIsRight, bits, shownBy, Values}
+use Rattle.rules.proofs.RowLaws.{row-through}
+use Rattle.rules.proofs.Recordables.{valid-recordable, recordable-valid}
+use Rattle.rules.proofs.Calls as calls
+
+-- ---- a glyph
+
+module _ (s : List ℕ) (k : ℕ) (bs : List ℕ) where
+  part-given : (p : Place) → glyphOf s k ≡ given p → partOf s (p .start) (p .len) ≡ bs → AllKept (sheetRow s k) × IsPart s k bs
+  part-given p e same =
+      let part = given-part s k p e in
+      let place = given-pair s k p e .place in
+      let within = given-within s k p e .1 in
+      let behind = drop (p .start) s in
+      let back = drop (p .len) behind in (
+        calls.sheet s k .taken .0 (p, e),
+        record {
+          front = take (p .start) s;
+          back = back;
+          parted =
+              sym (take-append-drop (p .start) s)
+              ∙ ap {B = List ℕ} (λ (r : List ℕ). take (p .start) s ++ r)
+              (sym (take-append-drop (p .len) behind) ∙ ap {B = List ℕ} (λ (r : List ℕ). r ++ back) (sym (part .0) ∙ same));
+          starts = length-take-le (p .start) s (omega (arith, within)) ∙ ap (λ (q : Place). q .start) place;
+          long = ap length (sym same) ∙ part .1 ∙ ap (λ (q : Place). q .len) place;
+        },
+      )
+
+  glyph-part : glyphBytes s k ≡ given bs → AllKept (sheetRow s k) × IsPart s k bs
+  glyph-part h = go (glyphOf s k) refl h
+    where
+      go : (o : Outcome Place) → glyphOf s k ≡ o → andThen o (λ p. given (partOf s (p .start) (p .len))) ≡ given bs → AllKept (sheetRow s k) × IsPart s k bs
+      go (given p) e g = part-given p e (given-same g)
+      go (refused n) e g = absurd (not-given g)
+
+  part-glyph : AllKept (sheetRow s k) × IsPart s k bs → glyphBytes s k ≡ given bs
+  part-glyph h =
+      let t = calls.sheet s k .taken .1 (h .0) in
+      let p = t .0 in
+      let e = t .1 in
+      let i = h .1 in
+      let place = given-pair s k p e .place in
+      let behind : drop (p .start) s ≡ bs ++ i .back =
+      ap (drop (p .start)) (i .parted) ∙ drop-at (i .front) (bs ++ i .back) (p .start) (i .starts ∙ sym (ap (λ (q : Place). q .start) place)) in
+      let here : take (p .len) (drop (p .start) s) ≡ bs =
+      ap (take (p .len)) behind ∙ take-at bs (i .back) (p .len) (i .long ∙ sym (ap (λ (q : Place). q .len) place)) in
+      ap (λ (o : Outcome Place). andThen o (λ q. given (partOf s (q .start) (q .len)))) e ∙ ap given (given-part s k p e .0 ∙ here)
+
+after-glyph : (s : List ℕ) (k : ℕ) → GoesBy (sheetRow s k) (glyphBytes s k)
+after-glyph s k = row-through (glyphOf s k) (glyphBytes s k) (calls.sheet s k) (λ p e. (partOf s (p .start) (p .len), ap after e)) (λ n e. ap after e)
+  where
+    after : Outcome Place → Outcome (List ℕ)
+    after o = andThen o (λ p. given (partOf s (p .start) (p .len)))
+
+-- ---- the whole radius
+
+radius-least : (d : Disk) → 1 ≤ d .e → LeastRadius d (wholeRadius d)
+radius-least d h = let l = radius-is-least d h in record {
+  reaches = leb-true (d .s) (wholeRadius d * wholeRadius d * (d .e * d .e)) (l .passes);
+  least = λ q r. le-of-suc-le-suc
+      (lt-of-not-le (λ (below : q < wholeRadius d). true≢false (sym (le-leb (d .s) (q * q * (d .e * d .e)) r) ∙ l .first q below)));
+}
+
+least-same : (d : Disk) (r q : ℕ) → LeastRadius d r → LeastRadius d q → r ≡ q
+least-same d r q a b = le-antisymm (a .least q (b .reaches)) (b .least r (a .reaches))
+
+radius : (d : Disk) (ps : List Point) (r : ℕ) → (radiusOf d ps ≡ given r) ↔ (Recordable d ps × LeastRadius d r)
+radius d ps r = (
+  λ e. let g = given-by (valid d ps) 7 r (wholeRadius d) (sym e) in
+      let k = valid-recordable d ps (g .0) in
+      (k, subst (LeastRadius d) (sym (g .1)) (radius-least d (k .e-some))),
+  λ h. rw (recordable-valid d ps (h .0)) (ap given (least-same d (wholeRadius d) r (radius-least d (h .0 .e-some)) (h .1))),
+)
+
+-- ---- the preview
+
+module _ (d : Disk) (ps : List Point) (h : Recordable d ps) where
+  size : (lo z hi : ℤ) → natAbs lo ≤ largest em → natAbs hi ≤ largest em → lo *ℤ pos (d .e) ≼ z → z ≼ hi *ℤ pos (d .e) → natAbs z ≤ 1000 * d .e
+  size lo z hi m n l k =
+      between-most (lo *ℤ pos (d .e)) z (hi *ℤ pos (d .e)) (scaled lo m) (scaled hi n)
+      (both (test-true (leZ (lo *ℤ pos (d .e)) z) (l .le)) (test-true (leZ z (hi *ℤ pos (d .e))) (k .le)))
+    where
+      scaled : (z : ℤ) → natAbs z ≤ largest em → natAbs (z *ℤ pos (d .e)) ≤ 1000 * d .e
+      scaled z m = le-trans (le-of-eq (abs-* z (pos (d .e)))) (mul-le-mul-right (d .e) m)
+
+  x-size : natAbs (d .x) ≤ 1000 * d .e
+  x-size = size (em .left) (d .x) (em .right) (left-size em) (right-size em) (h .within .x-low) (h .within .x-high)
+
+  y-size : natAbs (d .y) ≤ 1000 * d .e
+  y-size = size (em .foot) (d .y) (em .top) (foot-size em) (top-size em) (h .within .y-low) (h .within .y-high)
+
+  right : PreviewIsRight d (floats d (wholeRadius d))
+  right =
+      let x = preview-exact d (valid-disk em d ps (recordable-valid d ps h)) in
+      record {
+        x-rounded = record {
+          over = x .x-exact;
+          under = x .e-exact;
+          divided = refl;
+          once = x .x-once;
+          is-finite = subst (λ (v : Float). T (finite v)) (sym (x .x-once)) (round-finite (natAbs (d .x)) (d .e) (h .e-some) x-size (negative (d .x)));
+        };
+        y-rounded = record {
+          over = x .y-exact;
+          under = x .e-exact;
+          divided = refl;
+          once = x .y-once;
+          is-finite = subst (λ (v : Float). T (finite v)) (sym (x .y-once)) (round-finite (natAbs (d .y)) (d .e) (h .e-some) y-size (negative (d .y)));
+        };
+        whole = wholeRadius d;
+        is-least = radius-least d (h .e-some);
+        radius-converted = refl;
+        radius-exact = x .r-exact;
+        radius-finite = has-finite (ofInt binary64 (pos (wholeRadius d))) false (wholeRadius d) 1 (x .r-exact);
+      }
+
+  -- the preview of a disk is one
+  right-same : (p : Preview) → PreviewIsRight d p → floats d (wholeRadius d) ≡ p
+  right-same p r =
+      let same : wholeRadius d ≡ r .whole = least-same d (wholeRadius d) (r .whole) (radius-least d (h .e-some)) (r .is-least) in
+      λ i. record {
+        x = sym (r .x-rounded .divided) i;
+        y = sym (r .y-rounded .divided) i;
+        radius = (ap (λ (w : ℕ). ofInt binary64 (pos w)) same ∙ sym (r .radius-converted)) i;
+      }
+
+preview : (d : Disk) (ps : List Point) (p : Preview) → (previewOf d ps ≡ given p) ↔ (Recordable d ps × PreviewIsRight d p)
+preview d ps p = (
+  λ e. let g = given-by (valid d ps) 7 p (floats d (wholeRadius d)) (sym e) in
+      let k = valid-recordable d ps (g .0) in
+      (k, subst (PreviewIsRight d) (sym (g .1)) (right d ps k)),
+  λ h. rw (recordable-valid d ps (h .0)) (ap given (right-same d ps (h .0) p (h .1))),
+)
+
+-- ---- bits
+
+abbrev values : Preview → List Float
+values p = p .x ∷ p .y ∷ p .radius ∷ []
+
+bits-back : (d : Disk) (ps : List Point) (p : Preview) → previewOf d ps ≡ given p → shownBy (bits p) ≡ values p
+bits-back d ps p e =
+    let g = given-by (valid d ps) 7 p (floats d (wholeRadius d)) (sym e) in
+    let n = ofInt binary64 (pos (d .e)) in
+    subst (λ (q : Preview). shownBy (bits q) ≡ values q) (sym (g .1))
+    (λ i. ofBits-toBits binary64 (quotient (d .x) (d .e)) (div-fits binary64 (ofInt binary64 (d .x)) n) i
+    ∷ ofBits-toBits binary64 (quotient (d .y) (d .e)) (div-fits binary64 (ofInt binary64 (d .y)) n) i
+    ∷ ofBits-toBits binary64 (ofInt binary64 (pos (wholeRadius d))) (ofInt-fits binary64 (pos (wholeRadius d))) i
+    ∷ [])
+
+same-values : (p q : Preview) → values p ≡ values q → p ≡ q
+same-values p q e =
+    let x : p .x ≡ q .x = cc in
+    let y : p .y ≡ q .y = cc in
+    let r : p .radius ≡ q .radius = cc in
+    λ i. record { x = x i; y = y i; radius = r i }
+
+-- ---- the loader and the reader
+
+loader : (t : List ℕ) (l : List ℤ) (n : ℕ) → (loadOf t l ≡ given n) ↔ (AllKept (loaderRow t l) × (n ≡ length (named t)))
+loader t l n = (
+  λ e. (calls.loader t l .taken .0 (n, e), accepted-count t l n e),
+  λ h. let g = calls.loader t l .taken .1 (h .0) in g .1 ∙ ap given (accepted-count t l (g .0) (g .1) ∙ sym (h .1)),
+)
+
+loader-list : (t : List ℕ) (l : List ℤ) (n : ℕ) → loadOf t l ≡ given n → listAfter t l ≡ flat (named t) ++ drop (2 * n) l
+loader-list t l n e =
+    after-given t l n e
+    ∙ ap (λ (k : ℕ). flat (named t) ++ drop k l) (length-flat (named t) ∙ ap (λ (k : ℕ). 2 * k) (sym (accepted-count t l n e)))
+
+reader : (bs : List ℕ) → Bytes bs → (d : Disk) (ps : List Point) → (readOf bs ≡ given (d, ps)) ↔ (Recordable d ps × (bs ≡ recordBytes d ps))
+reader bs bytes d ps = (
+  λ e. let w = written-again bs bytes d ps e in (valid-recordable d ps (w .0), sym (w .1)),
+  λ h. ap readOf (h .1) ∙ read-written d ps (recordable-valid d ps (h .0)),
+)
+
+pub all-values : Values
+all-values = record {
+  loader = loader;
+  loader-list = loader-list;
+  reader = reader;
+  writer = λ d ps b e. (record-long d ps (written-valid d ps b e .1), ap (λ (o : Outcome (Unit {0})). leftBy o d ps b) e);
+  glyph-refusals = λ s k. after-glyph s k;
+  glyph = λ s k bs. (glyph-part s k bs, part-glyph s k bs);
+  radius = radius;
+  preview = preview;
+  preview-bits = bits-back;
+  previews-compared = λ d e ps qs p q a b. (
+    λ same. same-values p q (sym (bits-back d ps p a) ∙ ap shownBy same ∙ bits-back e qs q b),
+    ap bits,
+  );
+}

@@ -1,0 +1,139 @@
+-- Each public call goes by its row of rules (specs/Rules.antt).
+--
+--   loader, sheet, engine, radius, preview, writer, reader : the calls
+use mathlib.Core.Path.{_≡_, sym, ap, _∙_}
+use mathlib.Core.Bool.{Bool, true, not, true≢false}
+use mathlib.Core.List.{List}
+use Prim.Native.Nat.{ℕ, _*_, _/_, _%_, _≤_, _<_}
+use native.Mathlib.Omega.{arith}
+use borrow.Author.Tests.{ltb-true, ltb-false, leb-true, leb-false, eqb-true, eqb-false, eq-eqb, not-true, not-false}
+use lib.Dec.{eqb, leb, ltb}
+use lib.IntN.{ℤ}
+use lib.ListN.{length}
+use Rattle.answers.specs.Outcome.{given, refuseIf}
+use Rattle.answers.proofs.OutcomeLaws.{not-refused}
+use Rattle.geometry.specs.declared.Point.{Point}
+use Rattle.geometry.specs.declared.Disk.{Disk}
+use Rattle.geometry.specs.EmBox.{allInEmBox}
+use Rattle.geometry.specs.Points.{points}
+use Rattle.geometry.proofs.PointLists.{firstPoints-all, length-firstPoints}
+use Rattle.description.specs.Description.{linesRead, loadOf}
+use Rattle.sheet.specs.Sheet.{count, directoryEnd, pair, pairs, follow, glyphOf}
+use Rattle.engine.specs.Engine.{enclosure, encloseOf}
+use Rattle.engine.proofs.Checks.{even-length}
+use Rattle.validity.specs.Valid.{valid}
+use Rattle.radius.specs.Radius.{wholeRadius, radiusOf}
+use Rattle.record_writer.specs.Layout.{recordLength}
+use Rattle.record_writer.specs.Writing.{writeOf}
+use Rattle.record_reader.specs.Reading.{diskIn, pointsIn, readOf}
+use Rattle.record_reader.proofs.RoundTrip.{read-written, written-again}
+use Rattle.preview.specs.Preview.{floats, previewOf}
+use Rattle.rules.specs.Row.{GoesBy}
+use Rattle.rules.specs.Rules.{Bytes, IsRecord, loaderRow, sheetRow, engineRow, writerRow, readerRow, diskRow}
+use Rattle.rules.proofs.RowLaws.{row-end, row-step}
+use Rattle.geometry.proofs.EmBox.{all-inside, inside-all}
+use Rattle.rules.proofs.Recordables.{valid-recordable, recordable-valid}
+use Rattle.rules.proofs.Sheets.{in-order, ordered}
+use Rattle.rules.proofs.Lines.{lines-judged}
+
+-- ---- a check, and what it says
+
+above : {m n : ℕ} → m < n → n ≤ m → ⊥
+above h k = omega arith
+
+-- a test that holds, and does not
+fails : {b : Bool} → not b ≡ true → b ≡ true → ⊥
+fails {b} h k = true≢false (sym k ∙ not-true b h)
+
+-- ---- the calls
+
+pub loader : (t : List ℕ) (l : List ℤ) → GoesBy (loaderRow t l) (loadOf t l)
+unfolding loadOf
+loader t l =
+    row-step (ltb (length l) 8192) 8 (λ h. above (ltb-true (length l) 8192 h)) (ltb-false (length l) 8192) (λ room.
+    row-step (ltb 65535 (length t)) 1 (λ h. above (ltb-true 65535 (length t) h)) (ltb-false 65535 (length t)) (λ short.
+    lines-judged (linesRead t)))
+
+pub sheet : (s : List ℕ) (k : ℕ) → GoesBy (sheetRow s k) (glyphOf s k)
+unfolding glyphOf
+sheet s k =
+    let rule = follow (directoryEnd s) (length s) (pairs s 0 (count s)) in
+    row-step (ltb 65535 (length s)) 1 (λ h. above (ltb-true 65535 (length s) h)) (ltb-false 65535 (length s)) (λ short.
+    row-step (ltb (length s) (directoryEnd s)) 6 (λ h. above (ltb-true (length s) (directoryEnd s) h)) (ltb-false (length s) (directoryEnd s)) (λ whole.
+    row-step (not rule) 6 (λ h o. fails h (ordered s o)) (λ h. in-order s (not-false rule h)) (λ order.
+    row-step (leb (count s) k) 10 (λ h l. above l (leb-true (count s) k h)) (leb-false (count s) k) (λ below.
+    row-end (pair s k)))))
+
+-- as many numbers as twice the points
+paired : (l : List ℤ) → length l % 2 ≡ 0 → length l ≡ 2 * length (points l)
+paired l even =
+    let half = length l / 2 in
+    let twice : length l ≡ 2 * half = omega arith in
+    twice ∙ ap (λ (n : ℕ). 2 * n) (sym (sym (ap length (firstPoints-all half l twice)) ∙ length-firstPoints half l (omega arith)))
+
+pub engine : (l : List ℤ) → GoesBy (engineRow l) (encloseOf l)
+unfolding encloseOf
+engine l =
+    row-step (eqb (length l % 2) 1) 9 (λ h e. odd (length l) (eqb-true (length l % 2) 1 h) e) (λ h. even-length l (eqb-false (length l % 2) 1 h)) (λ even.
+    let pairs = paired l even in
+    row-step (eqb (length l) 0) 5 (λ h k. none pairs (eqb-true (length l) 0 h) k) (λ h. some pairs (eqb-false (length l) 0 h)) (λ one.
+    row-step (ltb 4096 (length l / 2)) 4 (λ h k. many pairs (ltb-true 4096 (length l / 2) h) k) (λ h. few pairs (ltb-false 4096 (length l / 2) h)) (λ most.
+    row-step (not (allInEmBox (points l))) 3 (λ h k. fails h (inside-all (points l) k)) (λ h. all-inside (points l) (not-false (allInEmBox (points l)) h))
+    (λ boxed.
+    row-end (enclosure (points l))))))
+  where
+    odd : (n : ℕ) → n % 2 ≡ 1 → n % 2 ≡ 0 → ⊥
+    odd n h k = omega arith
+
+    none : {n m : ℕ} → n ≡ 2 * m → n ≡ 0 → 1 ≤ m → ⊥
+    none e h k = omega arith
+
+    some : {n m : ℕ} → n ≡ 2 * m → (n ≡ 0 → ⊥) → 1 ≤ m
+    some e h = omega (arith, h)
+
+    many : {n m : ℕ} → n ≡ 2 * m → 4096 < n / 2 → m ≤ 4096 → ⊥
+    many e h k = omega arith
+
+    few : {n m : ℕ} → n ≡ 2 * m → n / 2 ≤ 4096 → m ≤ 4096
+    few e h = omega arith
+
+-- one check of a disk and its points, and then a value
+checked : {A : Type 0} (d : Disk) (ps : List Point) (a : A) → GoesBy (diskRow d ps) (refuseIf (not (valid d ps)) 7 (given a))
+checked d ps a =
+    row-step (not (valid d ps)) 7 (λ h r. fails h (recordable-valid d ps r)) (λ h. valid-recordable d ps (not-false (valid d ps) h)) (λ r. row-end a)
+
+pub writer : (d : Disk) (ps : List Point) (b : List ℕ) → GoesBy (writerRow d ps b) (writeOf d ps b)
+writer d ps b =
+    row-step (ltb (length b) recordLength) 8 (λ h. above (ltb-true (length b) recordLength h)) (ltb-false (length b) recordLength)
+    (λ room. checked d ps tt)
+
+-- bytes that are a record are read as it
+record-valid : (bs : List ℕ) → IsRecord bs → valid (diskIn bs) (pointsIn bs) ≡ true
+record-valid bs r =
+    let read = ap readOf (r .bytes) ∙ read-written (r .disk) (r .support) (recordable-valid (r .disk) (r .support) (r .recordable)) in
+    let v = valid (diskIn bs) (pointsIn bs) in
+    let long = not-refused (not (eqb (length bs) recordLength)) 7 read in
+    not-false v (not-refused (not v) 7 (long .1) .0)
+
+pub reader : (bs : List ℕ) → Bytes bs → GoesBy (readerRow bs) (readOf bs)
+reader bs bytes =
+    let v = valid (diskIn bs) (pointsIn bs) in
+    let as-long = eqb (length bs) recordLength in
+    row-step (not as-long) 7 (λ h e. fails h (eq-eqb (length bs) recordLength e)) (λ h. eqb-true (length bs) recordLength (not-false as-long h)) (λ long.
+    row-step (not v) 7 (λ h r. fails h (record-valid bs r)) (λ h. holds long (not-false v h)) (λ r. row-end (diskIn bs, pointsIn bs)))
+  where
+    holds : length bs ≡ recordLength → valid (diskIn bs) (pointsIn bs) ≡ true → IsRecord bs
+    holds long v =
+        let read : readOf bs ≡ given (diskIn bs, pointsIn bs) = rw (eq-eqb (length bs) recordLength long, v) in
+        record {
+          disk = diskIn bs;
+          support = pointsIn bs;
+          recordable = valid-recordable (diskIn bs) (pointsIn bs) v;
+          bytes = sym (written-again bs bytes (diskIn bs) (pointsIn bs) read .1);
+        }
+
+pub radius : (d : Disk) (ps : List Point) → GoesBy (diskRow d ps) (radiusOf d ps)
+radius d ps = checked d ps (wholeRadius d)
+
+pub preview : (d : Disk) (ps : List Point) → GoesBy (diskRow d ps) (previewOf d ps)
+preview d ps = checked d ps (floats d (wholeRadius d))

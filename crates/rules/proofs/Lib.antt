@@ -1,0 +1,5 @@
+pub mod RowLaws
+pub mod Recordables
+pub mod Sheets
+pub mod Lines
+pub mod Calls

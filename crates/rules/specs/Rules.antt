@@ -1,0 +1,141 @@
+-- The rules of document 01 as propositions, and the row of rules of each public call, with document 01's numbers in its order.
+--
+--   GoodLine i         == a line that is blank, or a point in the em box
+--   lineRow k i        == the rules of a line behind lines with k points: 2, then 3, then 4
+--   FirstFaulty ls n   == lines part into good ones, a faulty one and the rest; the faulty one gives n
+--   byLine ls          == the rule of the lines: all good, and at most 4,096 points; the first faulty line decides
+--   partEnd s i        == where part i of the sheet s ends
+--   PairsInOrder s     == the rules of a sheet's pairs
+--   Recordable d ps    == the disk d and the points ps are such as a valid record holds
+--   Bytes bs           == bs is a list of bytes
+--   IsRecord bs        == bs is the record of such a disk and points
+--   loaderRow, sheetRow, engineRow, writerRow, readerRow, diskRow == the rows; radius and preview have the last
+--
+-- `Inside em p`: x is from 0 to 1000 and y from −250 to 750 (geometry/specs/EmBox.antt, which has every limit of points and disks).
+use mathlib.Core.Path.{_≡_}
+use mathlib.Core.List.{List, [], _∷_, _++_, List·Memᴰ}
+use Prim.Native.Nat.{ℕ, suc, _+_, _%_, _≤_, _<_}
+use lib.IntN.{ℤ}
+use lib.ListN.{length, getD}
+use Rattle.divisors.specs.Divisor.{Reduced}
+use Rattle.geometry.specs.declared.Point.{Point}
+use Rattle.geometry.specs.declared.Disk.{Disk}
+use Rattle.geometry.specs.EmBox.{em, Inside, WithinLimits}
+use Rattle.geometry.specs.Points.{points}
+use Rattle.point_lists.specs.Sets.{In}
+use Rattle.point_lists.specs.Rising.{Rising}
+use Rattle.lines.specs.Line.{Line, blank, point, fault}
+use Rattle.description.specs.Description.{linesRead, pointsOn, named}
+use Rattle.sheet.specs.Sheet.{count, directoryEnd, pair}
+use Rattle.record_writer.specs.Layout.{recordLength}
+use Rattle.record_writer.specs.Bytes.{recordBytes}
+use Rattle.rules.specs.Row.{Rule, _unless_, DueFirst}
+
+-- ---- descriptions
+
+pub data GoodLine : Line → Type 0 where
+  empty : GoodLine blank
+  boxed : {p : Point} → Inside em p → GoodLine (point p)
+
+abbrev pub AllGood : List Line → Type 0
+AllGood ls = (i : Line) → List·Memᴰ i ls → GoodLine i
+
+-- "in it 2, then 3, then 4"
+abbrev pub lineRow : ℕ → Line → List Rule
+lineRow k i =
+    2 unless (i ≡ fault → ⊥)
+    ∷ 3 unless ((p : Point) → i ≡ point p → Inside em p)
+    ∷ 4 unless ((p : Point) → i ≡ point p → k < 4096)
+    ∷ []
+
+pub record FirstFaulty (ls : List Line) (n : ℕ) : Type 0 where
+  pub front : List Line
+  pub line : Line
+  pub back : List Line
+  pub parted : ls ≡ front ++ line ∷ back
+  pub good : AllGood front
+  pub few : length (pointsOn front) ≤ 4096
+  pub due : DueFirst (lineRow (length (pointsOn front)) line) n
+
+-- "by line; the first faulty line decides"
+abbrev pub byLine : List Line → Rule
+byLine ls = record { Kept = AllGood ls × (length (pointsOn ls) ≤ 4096); Broken = FirstFaulty ls }
+
+-- "Loader: 8, 1, then by line; .. at the end 5."
+abbrev pub loaderRow : List ℕ → List ℤ → List Rule
+loaderRow text list =
+    8 unless (8192 ≤ length list)
+    ∷ 1 unless (length text ≤ 65535)
+    ∷ byLine (linesRead text)
+    ∷ 5 unless (1 ≤ length (named text))
+    ∷ []
+
+-- ---- sheets
+
+abbrev pub partEnd : List ℕ → ℕ → ℕ
+partEnd s i = pair s i .start + pair s i .len
+
+pub record PairsInOrder (s : List ℕ) : Type 0 where
+  -- "sorted by offset"
+  pub sorted : (i j : ℕ) → i < j → j < count s → pair s i .start ≤ pair s j .start
+  -- "The first part starts at or after the directory"
+  pub first : 0 < count s → directoryEnd s ≤ pair s 0 .start
+  -- "each next at or after the end of the one before"
+  pub next : (i : ℕ) → suc i < count s → partEnd s i ≤ pair s (suc i) .start
+  -- "all within the sheet"
+  pub within : (i : ℕ) → i < count s → partEnd s i ≤ length s
+
+-- "Sheet: 1, 6, 10."
+abbrev pub sheetRow : List ℕ → ℕ → List Rule
+sheetRow s k =
+    1 unless (length s ≤ 65535)
+    ∷ 6 unless (directoryEnd s ≤ length s)
+    ∷ 6 unless PairsInOrder s
+    ∷ 10 unless (k < count s)
+    ∷ []
+
+-- ---- point lists
+
+-- "Engine: 9, 5, 4, 3."
+abbrev pub engineRow : List ℤ → List Rule
+engineRow list =
+    9 unless (length list % 2 ≡ 0)
+    ∷ 5 unless (1 ≤ length (points list))
+    ∷ 4 unless (length (points list) ≤ 4096)
+    ∷ 3 unless ((p : Point) → In p (points list) → Inside em p)
+    ∷ []
+
+-- ---- disks, points and records
+
+-- "A valid record has its corners so written, E from 1 to 2,000,000, the divisor rule, the centre in the em box, S at most 500,000 × E², and
+-- corners in the em box": one to three, which rise strictly
+pub record Recordable (d : Disk) (ps : List Point) : Type 0 where
+  pub e-some : 1 ≤ d .e
+  -- E at most 2,000,000, the centre in the em box, S at most 500,000 × E²
+  pub within : WithinLimits em d
+  -- no whole number above 1 divides X, Y and E all together
+  pub lowest : Reduced (d .x) (d .y) (d .e)
+  pub some : 1 ≤ length ps
+  pub most : length ps ≤ 3
+  pub rises : Rising ps
+  pub in-box : (p : Point) → In p ps → Inside em p
+
+abbrev pub Bytes : List ℕ → Type 0
+Bytes bs = (i : ℕ) → getD bs i 0 < 256
+
+pub record IsRecord (bs : List ℕ) : Type 0 where
+  pub disk : Disk
+  pub support : List Point
+  pub recordable : Recordable disk support
+  pub bytes : bs ≡ recordBytes disk support
+
+-- "Writer: 8, 7."; a record has 44 bytes (record_writer/specs/Layout.antt)
+abbrev pub writerRow : Disk → List Point → List ℕ → List Rule
+writerRow d ps buffer = 8 unless (recordLength ≤ length buffer) ∷ 7 unless Recordable d ps ∷ []
+
+-- "Reader, cutting radius, preview: 7."
+abbrev pub readerRow : List ℕ → List Rule
+readerRow bs = 7 unless (length bs ≡ recordLength) ∷ 7 unless IsRecord bs ∷ []
+
+abbrev pub diskRow : Disk → List Point → List Rule
+diskRow d ps = 7 unless Recordable d ps ∷ []
