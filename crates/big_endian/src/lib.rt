@@ -12,7 +12,7 @@ pub fn put_at(buf: &mut [u8], at: usize, n: usize, v: u64)
     requires { ⌜ (n ≤ 8) × (at + n ≤ length (now buf)) ⌝ }
     ensures { λ _. ⌜ now (buf .exit) ≡ put n v at (now (buf .entry)) ⌝ }
 {
-    let mut left = n;
+    let mut left: usize = n;
     let mut i = at;
     while 0 < left {
         left -= 1;

@@ -87,6 +87,21 @@ fn copy_front(source: &[i16], n: usize, list: &mut [i16])
     }
 }
 
+// The loader's work where text and list have the size that they need: the points stand in found until the whole text is judged.
+fn load_through(text: &[u8], found: &mut [i16], list: &mut [i16]) -> Loaded
+    requires { ⌜ (8192 ≤ length (now found)) × (8192 ≤ length (now list)) × (length (now text) ≤ 65535) ⌝ }
+    ensures { λ r. ⌜ outcome r ≡ loadOf (now (text .entry)) (now (list .entry)) ⌝ }
+    ensures { λ _. ⌜ now (list .exit) ≡ listAfter (now (text .entry)) (now (list .entry)) ⌝ }
+{
+    match judge(text, found) {
+        Loaded::Points(n) => {
+            copy_front(found, 2 * n, list);
+            Loaded::Points(n)
+        }
+        Loaded::Refused(r) => Loaded::Refused(r),
+    }
+}
+
 // Loads the points of a description at the front of a list of numbers (01: the loader). Nothing is written before the whole text is judged.
 pub fn load(text: &[u8], list: &mut [i16]) -> Loaded
     ensures { λ r. ⌜ outcome r ≡ loadOf (now (text .entry)) (now (list .entry)) ⌝ }
@@ -99,11 +114,5 @@ pub fn load(text: &[u8], list: &mut [i16]) -> Loaded
         return Loaded::Refused(Refusal::TooLong);
     }
     let mut found = [0i16; NUMBERS];
-    match judge(text, &mut found) {
-        Loaded::Points(n) => {
-            copy_front(&found, 2 * n, list);
-            Loaded::Points(n)
-        }
-        Loaded::Refused(r) => Loaded::Refused(r),
-    }
+    load_through(text, &mut found, list)
 }

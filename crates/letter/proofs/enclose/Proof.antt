@@ -5,7 +5,7 @@ use Prim.Native.Nat.{ℕ, _*_, _≤_}
 use native.Mathlib.Omega.{arith}
 use borrow.Author.Needs.{needs}
 use lib.IntN.{ℤ}
-use lib.ListN.{length, take}
+use lib.ListN.{take}
 use lib.Seq.{length-take-le}
 use Rattle.answers.specs.Outcome.{given}
 use Rattle.description.specs.Description.{loadOf, outcome}
@@ -33,9 +33,6 @@ module _ (c : tie.After-n) where
   few : n ≤ 4096
   few = accepted-few text room n accepted
 
-  fits : 2 * n ≤ length (load .load .last .1 .0)
-  fits = omega (arith, few, load .load .kept)
-
 slice-aggregate-load : tie.Need-slice-aggregate-load
 slice-aggregate-load c = search needs
 
@@ -49,10 +46,10 @@ mul-list : tie.Need-mul-list
 mul-list c = record { fits = omega (arith, few (c .before)) }
 
 array-borrow-prefix-list : tie.Need-array-borrow-prefix-list
-array-borrow-prefix-list c = omega (arith, fits (c .before))
+array-borrow-prefix-list c = omega (arith, few (c .before), load (c .before) .load .kept)
 
 slice-aggregate-smallest-disk : tie.Need-slice-aggregate-smallest-disk
-slice-aggregate-smallest-disk c = let a = c .before .before in sym (length-take-le _ _ (omega (arith, fits a)))
+slice-aggregate-smallest-disk c = sym (length-take-le _ (load (c .before .before) .load .last .1 .0) (array-borrow-prefix-list (c .before)))
 
 smallest-disk-requires : tie.Need-smallest-disk-requires
 smallest-disk-requires c κs = search needs
