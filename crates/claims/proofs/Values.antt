@@ -130,18 +130,18 @@ radius d ps r = (
 -- ---- the preview
 
 module _ (d : Disk) (ps : List Point) (h : Recordable d ps) where
-  size : (lo z hi : ℤ) → natAbs lo ≤ largest em → natAbs hi ≤ largest em → lo *ℤ pos (d .e) ≼ z → z ≼ hi *ℤ pos (d .e) → natAbs z ≤ 1000 * d .e
+  size : (lo z hi : ℤ) → natAbs lo ≤ largest em → natAbs hi ≤ largest em → lo *ℤ pos (d .e) ≼ z → z ≼ hi *ℤ pos (d .e) → natAbs z ≤ largest em * d .e
   size lo z hi m n l k =
       between-most (lo *ℤ pos (d .e)) z (hi *ℤ pos (d .e)) (scaled lo m) (scaled hi n)
       (both (test-true (leZ (lo *ℤ pos (d .e)) z) (l .le)) (test-true (leZ z (hi *ℤ pos (d .e))) (k .le)))
     where
-      scaled : (z : ℤ) → natAbs z ≤ largest em → natAbs (z *ℤ pos (d .e)) ≤ 1000 * d .e
+      scaled : (z : ℤ) → natAbs z ≤ largest em → natAbs (z *ℤ pos (d .e)) ≤ largest em * d .e
       scaled z m = le-trans (le-of-eq (abs-* z (pos (d .e)))) (mul-le-mul-right (d .e) m)
 
-  x-size : natAbs (d .x) ≤ 1000 * d .e
+  x-size : natAbs (d .x) ≤ largest em * d .e
   x-size = size (em .left) (d .x) (em .right) (left-size em) (right-size em) (h .within .x-low) (h .within .x-high)
 
-  y-size : natAbs (d .y) ≤ 1000 * d .e
+  y-size : natAbs (d .y) ≤ largest em * d .e
   y-size = size (em .foot) (d .y) (em .top) (foot-size em) (top-size em) (h .within .y-low) (h .within .y-high)
 
   right : PreviewIsRight d (floats d (wholeRadius d))
