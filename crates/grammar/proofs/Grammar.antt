@@ -19,8 +19,8 @@ use Rattle.geometry.specs.declared.Point.{Point}
 use Rattle.numerals.specs.Numeral.{isDigit, allDigits, decimal, someIf, digits, numeral}
 use Rattle.lines.specs.Line.{Line, blank, point, fault, pointOf, lineOfWords, lineOf, wordsOf}
 use Rattle.lines.proofs.OneKind.{blank-fault, blank-point, point-fault, point-same}
-use Rattle.grammar.specs.Grammar.{Without, spaces, IsBlank, IsDigits, IsNumber, plain, minus, IsPointLine, LinesAreThese}
-use Rattle.grammar.proofs.Words.{no-word, Open, FirstWord, Words, words-are, words-of, lines-known, lines-read}
+use Rattle.grammar.specs.Grammar.{Without, spaces, IsBlank, IsDigits, IsNumber, plain, plus, minus, IsPointLine, LinesAreThese}
+use Rattle.grammar.proofs.Words.{no-word, with-byte, Open, FirstWord, Words, words-are, words-of, lines-known, lines-read}
 
 -- ---- digits
 
@@ -76,40 +76,49 @@ map-some : (f : ℕ → ℤ) (o : Option ℕ) (z : ℤ) → Option·map f o ≡ 
 map-some f none z e = absurd (none-some e)
 map-some f (some v) z e = (v, (refl, cc))
 
+read-plus : (bs : List ℕ) → numeral (43 ∷ bs) ≡ Option·map pos (digits bs)
+unfolding numeral
+read-plus bs = refl
+
 read-minus : (bs : List ℕ) → numeral (45 ∷ bs) ≡ Option·map (λ (v : ℕ). negℤ (pos v)) (digits bs)
 unfolding numeral
 read-minus bs = refl
 
-read-plain : (b : ℕ) (bs : List ℕ) → eqb b 45 ≡ false → numeral (b ∷ bs) ≡ Option·map pos (digits (b ∷ bs))
+read-plain : (b : ℕ) (bs : List ℕ) → eqb b 43 ≡ false → eqb b 45 ≡ false → numeral (b ∷ bs) ≡ Option·map pos (digits (b ∷ bs))
 unfolding numeral
-read-plain b bs h = rw h
+read-plain b bs p m = rw (p, m)
 
 pub number-known : (w : List ℕ) (z : ℤ) → numeral w ≡ some z → IsNumber w z
 unfolding numeral
 number-known [] z e = absurd (none-some e)
-number-known (b ∷ bs) z e = go (eqb b 45) refl
+number-known (b ∷ bs) z e = go (eqb b 43) (eqb b 45) refl refl
   where
-    signed : numeral (45 ∷ bs) ≡ some z → IsNumber (45 ∷ bs) z
-    signed h = let k = map-some (λ (v : ℕ). negℤ (pos v)) (digits bs) z (sym (read-minus bs) ∙ h) in
-        subst (IsNumber (45 ∷ bs)) (sym (k .1 .1)) (minus (digits-known bs (k .0) (k .1 .0)))
+    digits-are : (ds : List ℕ) (f : ℕ → ℤ) → numeral (b ∷ bs) ≡ Option·map f (digits ds) → (v : ℕ) × (IsDigits ds v × (z ≡ f v))
+    digits-are ds f h = let k = map-some f (digits ds) z (sym h ∙ e) in (k .0, (digits-known ds (k .0) (k .1 .0), k .1 .1))
 
-    go : (t : Bool) → eqb b 45 ≡ t → IsNumber (b ∷ bs) z
-    go true t = let same = eqb-true b 45 t in subst (λ (c : ℕ). IsNumber (c ∷ bs) z) (sym same) (signed (subst (λ (c : ℕ). numeral (c ∷ bs) ≡ some z) same e))
-    go false t = let k = map-some pos (digits (b ∷ bs)) z (sym (read-plain b bs t) ∙ e) in
-        subst (IsNumber (b ∷ bs)) (sym (k .1 .1)) (plain (digits-known (b ∷ bs) (k .0) (k .1 .0)))
+    behind : (sign : ℕ) (f : ℕ → ℤ) → b ≡ sign → numeral (sign ∷ bs) ≡ Option·map f (digits bs)
+        → ((v : ℕ) → IsDigits bs v → IsNumber (sign ∷ bs) (f v)) → IsNumber (b ∷ bs) z
+    behind sign f same h number =
+        let k = digits-are bs f (ap (λ (c : ℕ). numeral (c ∷ bs)) same ∙ h) in
+        subst (λ (c : ℕ). IsNumber (c ∷ bs) z) (sym same) (subst (IsNumber (sign ∷ bs)) (sym (k .1 .1)) (number (k .0) (k .1 .0)))
+
+    go : (p m : Bool) → eqb b 43 ≡ p → eqb b 45 ≡ m → IsNumber (b ∷ bs) z
+    go true m p q = behind 43 pos (eqb-true b 43 p) (read-plus bs) (λ v h. plus h)
+    go false true p q = behind 45 (λ (v : ℕ). negℤ (pos v)) (eqb-true b 45 q) (read-minus bs) (λ v h. minus h)
+    go false false p q = let k = digits-are (b ∷ bs) pos (read-plain b bs p q) in subst (IsNumber (b ∷ bs)) (sym (k .1 .1)) (plain (k .1 .0))
 
 plain-read : (ds : List ℕ) (v : ℕ) → IsDigits ds v → numeral ds ≡ some (pos v)
 plain-read [] v h = absurd (none (h .some))
   where
     none : 1 ≤ 0 → ⊥
     none k = omega arith
-plain-read (b ∷ bs) v h = read-plain b bs (ne-eqb b 45 (λ e. low (h .digit b (List·Memᴰ·head refl) .0) e)) ∙ ap (Option·map pos) (digits-read (b ∷ bs) v h)
-  where
-    low : 48 ≤ b → b ≡ 45 → ⊥
-    low k e = omega arith
+plain-read (b ∷ bs) v h =
+    let low = h .digit b (List·Memᴰ·head refl) .0 in
+    read-plain b bs (ne-eqb b 43 (λ e. omega (arith, low))) (ne-eqb b 45 (λ e. omega (arith, low))) ∙ ap (Option·map pos) (digits-read (b ∷ bs) v h)
 
 pub number-read : (w : List ℕ) (z : ℤ) → IsNumber w z → numeral w ≡ some z
 number-read w z (plain {ds} {v} h) = plain-read ds v h
+number-read w z (plus {ds} {v} h) = read-plus ds ∙ ap (Option·map pos) (digits-read ds v h)
 number-read w z (minus {ds} {v} h) = read-minus ds ∙ ap (Option·map (λ (n : ℕ). negℤ (pos n))) (digits-read ds v h)
 
 digits-bare : (ds : List ℕ) (v : ℕ) → IsDigits ds v → Without 32 ds
@@ -127,18 +136,13 @@ digits-some (b ∷ ds) v h e = let z : _≡_ {A = ℕ} 0 1 = cc in omega arith
 
 pub number-some : (w : List ℕ) (z : ℤ) → IsNumber w z → w ≡ [] → ⊥
 number-some w z (plain {ds} {v} h) e = digits-some ds v h e
-number-some w z (minus {ds} {v} h) e = no-word e
+number-some w z (plus h) e = no-word e
+number-some w z (minus h) e = no-word e
 
 pub number-bare : (w : List ℕ) (z : ℤ) → IsNumber w z → Without 32 w
-number-bare w z (plain {ds} {v} h) b m e = digits-bare ds v h b m e
-number-bare w z (minus {ds} {v} h) b m e = go (List·Memᴰ·cases-cons m)
-  where
-    other : (b : ℕ) → b ≡ 45 → b ≡ 32 → ⊥
-    other b h k = omega arith
-
-    go : (b ≡ 45) ⊎ List·Memᴰ b ds → ⊥
-    go (inl k) = other b k e
-    go (inr n) = digits-bare ds v h b n e
+number-bare w z (plain {ds} {v} h) = digits-bare ds v h
+number-bare w z (plus {ds} {v} h) = with-byte 32 43 ds (λ e. omega arith) (digits-bare ds v h)
+number-bare w z (minus {ds} {v} h) = with-byte 32 45 ds (λ e. omega arith) (digits-bare ds v h)
 
 -- ---- lines
 

@@ -1,6 +1,7 @@
 -- A text as lines, and a line as words with spaces around them.
 --
 --   lines-known, lines-read : the lines of a text are those of specs.Grammar.antt
+--   with-byte        : a byte that is no separator, before bytes without one
 --   Words line ws    == line is the words ws in this order, each some bytes without a space, with one or more spaces between two and spaces or none around all
 --   words-are        : then these are its words
 --   words-of         : every line is its words so
@@ -54,7 +55,7 @@ pieces-all sep b (c ∷ w) h =
     ap (λ (t : Bool). joinPiece t b (pieces sep (c ∷ w))) (differs h)
     ∙ ap (joinPiece false b) (pieces-all sep c w (later h))
 
-with-byte : (sep b : ℕ) (w : List ℕ) → (b ≡ sep → ⊥) → Without sep w → Without sep (b ∷ w)
+pub with-byte : (sep b : ℕ) (w : List ℕ) → (b ≡ sep → ⊥) → Without sep w → Without sep (b ∷ w)
 with-byte sep b w d h c m = go (List·Memᴰ·cases-cons m)
   where
     go : (c ≡ b) ⊎ List·Memᴰ c w → c ≡ sep → ⊥

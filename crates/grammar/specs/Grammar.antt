@@ -5,7 +5,7 @@
 --   spaces n            == n spaces
 --   IsBlank line        == "a line of no bytes or only spaces (32)"
 --   IsDigits ds v       == 1 to 4 decimal digits of the value v
---   IsNumber w z        == "an optional minus and 1 to 4 decimal digits; leading zeros and −0 are allowed"
+--   IsNumber w z        == "one plus or one minus, then 1 to 4 digits as before" (02, item 1); "leading zeros and −0 are allowed"
 --   IsPointLine line p  == "spaces or none, x, one or more spaces, y, spaces or none"
 --   LinesAreThese       == these are the lines; a line is read as blank, or as the point p, exactly where it is one, and as a fault where it is neither
 use mathlib.Core.Path.{_≡_}
@@ -41,7 +41,8 @@ pub record IsDigits (ds : List ℕ) (v : ℕ) : Type 0 where
 
 pub data IsNumber : List ℕ → ℤ → Type 0 where
   plain : {ds : List ℕ} {v : ℕ} → IsDigits ds v → IsNumber ds (pos v)
-  -- byte 45 is the minus
+  -- byte 43 is the plus, byte 45 the minus
+  plus : {ds : List ℕ} {v : ℕ} → IsDigits ds v → IsNumber (43 ∷ ds) (pos v)
   minus : {ds : List ℕ} {v : ℕ} → IsDigits ds v → IsNumber (45 ∷ ds) (negℤ (pos v))
 
 pub record IsPointLine (line : List ℕ) (p : Point) : Type 0 where

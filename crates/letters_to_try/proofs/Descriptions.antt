@@ -1,6 +1,7 @@
 -- The letters and the edges as descriptions are what specs/Descriptions.antt says, by computing; two writings agree by demand 3.
 --
 --   letters-described, edges-load : the letters and the edges
+--   numbers-read                  : the words of document 02's item 1
 --   has p Q, each P Q             == p is one of Q, each of P is: as tests
 --   has-in, each-in               : so they are
 --   writings-agree                : the writings
@@ -31,7 +32,8 @@ use Rattle.claims.specs.Demand3.{AcceptedDescription}
 use Rattle.letters_to_try.specs.Letters.{Letter, letters}
 use Rattle.claims.proofs.Demand3.{demand-three}
 use Rattle.letters_to_try.proofs.Letters.{_&_}
-use Rattle.letters_to_try.specs.Descriptions.{bytes, Loads, Described, AllDescribed, descriptions, AllLoad, edges, Agree, AllAgree, writings}
+use Rattle.letters_to_try.specs.Descriptions.{bytes, Loads, Described, AllDescribed, descriptions, AllLoad, edges}
+use Rattle.letters_to_try.specs.Descriptions.{AllNumbers, numbers, Agree, AllAgree, writings}
 
 loads : (bs : List ℕ) {o : Outcome ℕ} → leb (length bs) 65535 ≡ true → byLine 0 (linesRead bs) ≡ o → Loads bs o
 loads bs short e = record { answers = λ l room. load-judged bs l room (leb-true (length bs) 65535 short) ∙ e }
@@ -74,7 +76,16 @@ edges-load =
     & loads _ refl refl
     & loads _ refl refl
     & loads _ refl refl
+    & loads _ refl refl
+    & loads _ refl refl
+    & loads _ refl refl
+    & loads _ refl refl
+    & loads _ refl refl
     & tt
+
+pub numbers-read : AllNumbers numbers
+unfolding allDigits decimal digits numeral
+numbers-read = refl & refl & refl & refl & refl & refl & refl & refl & refl & refl & refl & tt
 
 -- ---- two writings
 

@@ -6,17 +6,20 @@
 --   Described c t     == t is a description of the letter c: it names the letter's list, and the loader takes it
 --   descriptions      == one for each of the letters A to K
 --   edges             == descriptions and what the loader answers
+--   numbers           == words and the numbers that they are (02, item 1)
 --   writings          == pairs of texts that name the same set of points in other ways
 --   Agree t u         == whatever lists and buffers that are long enough are lent: the same disk, support set, radius, preview and record
 use mathlib.Core.Path.{_≡_}
 use mathlib.Core.List.{List, [], _∷_, _++_}
+use mathlib.Core.Option.{Option, none, some}
 use Prim.Native.Nat.{ℕ, zero, suc, _≤_}
 use Prim.Native.Char.{code}
 use Prim.Native.String as text
 use Prim.Native.String.{String}
-use lib.IntN.{ℤ}
+use lib.IntN.{ℤ, pos, negℤ}
 use lib.ListN.{length}
 use Rattle.answers.specs.Outcome.{Outcome, given, refused}
+use Rattle.numerals.specs.Numeral.{numeral}
 use Rattle.description.specs.Description.{loadOf, named}
 use Rattle.record_writer.specs.Layout.{recordLength}
 use Rattle.claims.specs.Demand3.{Answers, worked}
@@ -98,9 +101,43 @@ edges =
     ∷ edge "1\t1" (refused 2)
     ∷ edge "1 1\r\n" (refused 2)
     ∷ edge "5-3" (refused 2)
+    -- one plus or one minus before a number (02, item 1)
+    ∷ edge "+12 -7\n+0 -0\n+1000 +750" (given 3)
+    ∷ edge "+-1 0" (refused 2)
+    ∷ edge "0 0\n++1 0" (refused 2)
+    ∷ edge "+1001 -+1" (refused 2)
+    ∷ edge "0 +751\n+" (refused 3)
     ∷ []
 
--- ---- two writings of a letter: other order, repeats, blank lines, leading zeros
+-- ---- numbers: "may begin with one plus or one minus, then 1 to 4 digits as before. "+0" is 0; "+-1" and "++1" are refused as 2" (02, item 1)
+
+pub record Spelling : Type 0 where
+  pub text : String
+  pub number : Option ℤ
+
+abbrev pub spells : String → Option ℤ → Spelling
+spells t z = record { text = t; number = z }
+
+abbrev pub AllNumbers : List Spelling → Type 0
+AllNumbers [] = Unit {0}
+AllNumbers (s ∷ ss) = (numeral (bytes (s .text)) ≡ s .number) × AllNumbers ss
+
+abbrev pub numbers : List Spelling
+numbers =
+    spells "+12" (some (pos 12))
+    ∷ spells "-7" (some (negℤ (pos 7)))
+    ∷ spells "+0" (some (pos 0))
+    ∷ spells "-0" (some (pos 0))
+    ∷ spells "+0750" (some (pos 750))
+    ∷ spells "+-1" none
+    ∷ spells "++1" none
+    ∷ spells "-+1" none
+    ∷ spells "+" none
+    ∷ spells "1+" none
+    ∷ spells "+12345" none
+    ∷ []
+
+-- ---- two writings of a letter: other order, repeats, blank lines, signs, leading zeros
 
 pub record Agree (t u : String) : Type 0 where
   pub answers :
@@ -120,5 +157,5 @@ writings =
     -- D
     record { one = "0 0\n10 0\n0 10\n10 10\n"; other = "10 10\n0 10\n10 0\n0 0\n10 10" }
     -- F
-    ∷ record { one = "0 0\n4 0\n2 3\n"; other = "\n  2   003 \n-0 0\n\n4 0000\n0004 -0" }
+    ∷ record { one = "0 0\n4 0\n2 3\n"; other = "\n  +2   003 \n-0 +0\n\n4 0000\n+0004 -0" }
     ∷ []

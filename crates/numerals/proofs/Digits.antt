@@ -4,23 +4,22 @@
 --   more-digit          : one digit read
 --   more-end            : 1 to 4 digits read and nothing left
 --   more-empty, more-long, more-other : no digit, a fifth, and a byte that is none
---   numeral-minus, numeral-plain : a number by its first byte
+--   numeral-signed      : a number is the value of the digits behind its sign
 --   grown, fewer-digits : k digits have a value below 10 ^ k
 use Prim.Native.Nat.{ℕ, suc, _+_, _-_, _*_, _^_, _≤_, _<_}
 use mathlib.Core.Path.{_≡_, refl, sym}
-use mathlib.Core.Bool.{Bool, true, false, _&&_, true≢false}
+use mathlib.Core.Bool.{Bool, true, false, _&&_}
 use mathlib.Core.List.{List, [], _∷_}
 use mathlib.Core.Option.{Option, none, some, Option·map}
 use native.Mathlib.Nat.{zero-add, add-zero, add-suc, suc-add, pow-suc, pow-le-pow-right, lt-of-lt-of-le}
 use native.Mathlib.Numerals.{add-one}
 use native.Mathlib.Omega.{arith}
 use lib.Dec.{leb}
-use lib.IntN.{pos, negℤ}
-use lib.ListN.{length, drop}
+use lib.ListN.{length}
 use borrow.Author.Tests.{le-leb, lt-leb, eqb-true}
 use Rattle.integers.proofs.Tests.{stop}
 use Rattle.numerals.specs.Numeral.{isDigit, allDigits, decimal, someIf, digits, numeral}
-use Rattle.numerals.specs.Places.{isByte, endsWord, upTo, starts, word}
+use Rattle.numerals.specs.Places.{isByte, endsWord, upTo, starts, afterSign, signed, word}
 
 pub more : ℕ → ℕ → List ℕ → Option ℕ
 more k v ds = someIf (leb 1 (k + length ds) && (leb (k + length ds) 4 && allDigits ds)) (decimal v ds)
@@ -60,20 +59,18 @@ more-other k v b ds h =
 
 -- ---- the sign
 
-pub numeral-minus : (bs : List ℕ) → starts (isByte 45) bs ≡ true → numeral (word bs) ≡ Option·map (λ (v : ℕ). negℤ (pos v)) (digits (word (drop 1 bs)))
-unfolding numeral starts upTo
-numeral-minus [] h = absurd (true≢false (sym h))
-numeral-minus (b ∷ bs) h = rw (eqb-true b 45 h)
+signed-step : (plus minus ends : Bool) (b : ℕ) (bs : List ℕ) → isByte 43 b ≡ plus → isByte 45 b ≡ minus → endsWord b ≡ ends
+    → numeral (word (b ∷ bs)) ≡ Option·map (signed (starts (isByte 45) (b ∷ bs))) (digits (word (afterSign (b ∷ bs))))
+unfolding numeral digits starts upTo afterSign
+signed-step true minus ends b bs p m e = rw (eqb-true b 43 p)
+signed-step false true ends b bs p m e = rw (eqb-true b 45 m)
+signed-step false false true b bs p m e = rw (e, p, m, e)
+signed-step false false false b bs p m e = rw (e, p, m, e)
 
-plain-step : (t : Bool) (b : ℕ) (bs : List ℕ) → endsWord b ≡ t → isByte 45 b ≡ false → numeral (word (b ∷ bs)) ≡ Option·map pos (digits (word (b ∷ bs)))
-unfolding numeral digits upTo
-plain-step true b bs e h = rw e
-plain-step false b bs e h = rw (e, h)
-
-pub numeral-plain : (bs : List ℕ) → starts (isByte 45) bs ≡ false → numeral (word bs) ≡ Option·map pos (digits (word bs))
-unfolding numeral digits starts upTo
-numeral-plain [] h = refl
-numeral-plain (b ∷ bs) h = plain-step (endsWord b) b bs refl h
+pub numeral-signed : (bs : List ℕ) → numeral (word bs) ≡ Option·map (signed (starts (isByte 45) bs)) (digits (word (afterSign bs)))
+unfolding numeral digits starts upTo afterSign
+numeral-signed [] = refl
+numeral-signed (b ∷ bs) = signed-step (isByte 43 b) (isByte 45 b) (endsWord b) b bs refl refl refl
 
 -- ---- the value's bound
 

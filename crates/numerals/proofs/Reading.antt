@@ -1,28 +1,28 @@
--- The digits of a word, read from a place on.
+-- The digits of a word, read from a place on, and the sign before them.
 --
 --   Reading text at v i == the bytes from `at` to i are at most four digits of the value v, and what follows them decides
---   reading-start, reading-digit : the first place, and one digit on
---   reading-long, reading-none, reading-bad : a fifth digit, no digit, and a byte that belongs to no number
---   reading-end         : the word ends behind 1 to 4 digits
---   minus-value, minus-ahead : a minus at the place, and the digits behind it
---   signed-value, signed-none : a number from its digits and its sign
+--   reading-first, reading-digit : behind the first digit, and one digit on
+--   reading-none, reading-bad    : no digit, and a byte that belongs to no number, which a fifth digit is
+--   reading-end                  : the word ends behind 1 to 4 digits
+--   sign-passed, no-sign         : the bytes behind a sign, and without one
+--   signed-value, signed-none    : a number from its sign and its digits
 use Prim.Native.Nat.{ℕ, _+_, _-_, _*_, _^_, _≤_, _<_}
-use mathlib.Core.Path.{_≡_, refl, sym, _∙_, ap}
-use mathlib.Core.Bool.{Bool, true, false, true≢false}
+use mathlib.Core.Path.{_≡_, refl, sym, _∙_, ap, subst}
+use mathlib.Core.Bool.{Bool, true, false, _&&_, true≢false}
 use mathlib.Core.List.{List, [], _∷_}
 use mathlib.Core.Option.{none, some, Option·map}
 use native.Mathlib.Omega.{arith}
-use lib.Dec.{leb}
-use lib.IntN.{ℤ, pos, negℤ}
+use lib.Dec.{leb, ltb}
+use lib.IntN.{ℤ}
 use lib.ListN.{length, getD, drop}
-use borrow.Author.Tests.{leb-true, ne-eqb, eqb-true}
+use borrow.Author.Tests.{leb-true, ltb-false, ne-eqb, eqb-true}
 use Rattle.integers.proofs.Tests.{first, rest}
 use Rattle.numerals.specs.declared.Natural.the-variants as Natural
 use Rattle.numerals.specs.declared.Number.the-variants as Number
-use Rattle.numerals.specs.Numeral.{isDigit, digits, numeral}
-use Rattle.numerals.specs.Places.{isByte, endsWord, starts, ends, word, afterWord, Reaches, NaturalAt, NumberAt}
+use Rattle.numerals.specs.Numeral.{isDigit, digits}
+use Rattle.numerals.specs.Places.{isByte, isSign, endsWord, from, starts, ends, afterSign, signed, word, afterWord, Reaches, NaturalAt, NumberAt}
 use Rattle.numerals.proofs.Places.{drop-at, up-to-here, from-here, up-to-on, up-to-next, from-next, inside, byte-passes}
-use Rattle.numerals.proofs.Digits.{more, more-start, more-digit, more-end, more-empty, more-long, more-other, grown, fewer-digits, numeral-minus}
+use Rattle.numerals.proofs.Digits.{more, more-start, more-digit, more-end, more-empty, more-long, more-other, grown, fewer-digits, numeral-signed}
 
 pub record Reading (text : List ℕ) (at v i : ℕ) : Type 0 where
   pub behind : at ≤ i
@@ -50,19 +50,24 @@ digit-inside b h =
 stopped : (k v : ℕ) (bs : List ℕ) → ends endsWord bs ≡ true → more k v (word bs) ≡ more k v []
 stopped k v bs h = ap (more k v) (up-to-here endsWord bs h)
 
-bad : (k v : ℕ) (bs : List ℕ) → starts isDigit bs ≡ false → ends endsWord bs ≡ false → more k v (word bs) ≡ none
+-- a byte that does not end the word, where no digit may follow or none does
+bad : (k v : ℕ) (few : Bool) (bs : List ℕ) → ltb k 4 ≡ few → (few && starts isDigit bs) ≡ false → ends endsWord bs ≡ false → more k v (word bs) ≡ none
 unfolding starts ends
-bad k v [] h e = absurd (true≢false e)
-bad k v (b ∷ bs) h e = rw (up-to-on endsWord b bs e) (more-other k v b (word bs) h)
+bad k v few [] l h e = absurd (true≢false e)
+bad k v true (b ∷ bs) l h e = rw (up-to-on endsWord b bs e) (more-other k v b (word bs) h)
+bad k v false (b ∷ bs) l h e = rw (up-to-on endsWord b bs e) (more-long k v b (word bs) (ltb-false k 4 l))
 
-no-digit : (t : Bool) (v : ℕ) (bs : List ℕ) → ends endsWord bs ≡ t → starts isDigit bs ≡ false → more 0 v (word bs) ≡ none
-no-digit true v bs e h = stopped 0 v bs e ∙ more-empty v
-no-digit false v bs e h = bad 0 v bs h e
+no-digit : (t : Bool) (bs : List ℕ) → ends endsWord bs ≡ t → starts isDigit bs ≡ false → more 0 0 (word bs) ≡ none
+no-digit true bs e h = stopped 0 0 bs e ∙ more-empty 0
+no-digit false bs e h = bad 0 0 true bs refl h e
+
+pub reading-none : (bs : List ℕ) → starts isDigit bs ≡ false → digits (word bs) ≡ none
+reading-none bs h = sym (more-start (word bs)) ∙ no-digit (ends endsWord bs) bs refl h
 
 -- ---- the readings
 
 module _ (text : List ℕ) (at : ℕ) where
-  pub reading-start : at ≤ length text → Reading text at 0 at
+  reading-start : at ≤ length text → Reading text at 0 at
   reading-start h =
       let e : at - at ≡ 0 = omega arith in
       record { behind = omega arith; within = h; few = omega arith; bound = rw e (omega arith); value = rw e (more-start (word (drop at text))); ahead = refl }
@@ -73,7 +78,7 @@ module _ (text : List ℕ) (at : ℕ) where
         ap (more (i - at) v) (sym (up-to-next text i endsWord (inside text i isDigit h) (digit-inside (getD text i 0) (byte-passes text i isDigit h))))
         ∙ r .value
 
-    pub reading-digit : (d : ℕ) → d ≡ getD text i 0 - 48 → starts isDigit (drop i text) ≡ true → (i - at ≡ 4 → ⊥) → Reading text at (10 * v + d) (i + 1)
+    pub reading-digit : (d : ℕ) → d ≡ getD text i 0 - 48 → starts isDigit (drop i text) ≡ true → i - at < 4 → Reading text at (10 * v + d) (i + 1)
     reading-digit d is h n =
         let b = getD text i 0 in
         let digit = byte-passes text i isDigit h in
@@ -83,27 +88,19 @@ module _ (text : List ℕ) (at : ℕ) where
         record {
           behind = omega (arith, r .behind);
           within = omega arith;
-          few = omega (arith, r .few, r .behind, n);
+          few = omega (arith, r .behind, n);
           bound = rw next (grown (i - at) v d (r .bound) (omega arith));
           value = rw (next, is) (sym (more-digit (i - at) v b (word (drop (i + 1) text)) digit) ∙ more-here h);
           ahead = from-next text i endsWord here (digit-inside b digit) ∙ r .ahead;
         }
 
-    pub reading-long : starts isDigit (drop i text) ≡ true → i - at ≡ 4 → digits (word (drop at text)) ≡ none
-    reading-long h e = sym (more-here h) ∙ more-long (i - at) v (getD text i 0) (word (drop (i + 1) text)) (omega arith)
+    pub reading-bad : (ltb (i - at) 4 && starts isDigit (drop i text)) ≡ false → ends endsWord (drop i text) ≡ false → digits (word (drop at text)) ≡ none
+    reading-bad h e = sym (r .value) ∙ bad (i - at) v (ltb (i - at) 4) (drop i text) refl h e
 
-    pub reading-none : starts isDigit (drop i text) ≡ false → i ≡ at → digits (word (drop at text)) ≡ none
-    reading-none h e =
-        let none-read : i - at ≡ 0 = omega arith in
-        sym (r .value) ∙ ap (λ (k : ℕ). more k v (word (drop i text))) none-read ∙ no-digit (ends endsWord (drop i text)) v (drop i text) refl h
-
-    pub reading-bad : starts isDigit (drop i text) ≡ false → ends endsWord (drop i text) ≡ false → digits (word (drop at text)) ≡ none
-    reading-bad h e = sym (r .value) ∙ bad (i - at) v (drop i text) h e
-
-    pub reading-end : (i ≡ at → ⊥) → ends endsWord (drop i text) ≡ true
+    pub reading-end : at < i → ends endsWord (drop i text) ≡ true
         → (digits (word (drop at text)) ≡ some v) × (Reaches text i (afterWord (drop at text)) × (v < 10000))
     reading-end n e =
-        let some-read : 1 ≤ i - at = omega (arith, r .behind, n) in (
+        let some-read : 1 ≤ i - at = omega (arith, n) in (
           sym (r .value) ∙ stopped (i - at) v (drop i text) e ∙ more-end (i - at) v some-read (r .few),
           (
             record { inside = r .within; before = sym (from-here endsWord (drop i text) e) ∙ r .ahead },
@@ -111,26 +108,44 @@ module _ (text : List ℕ) (at : ℕ) where
           ),
         )
 
--- ---- the minus
+  pub reading-first : at ≤ length text → (d : ℕ) → d ≡ getD text at 0 - 48 → starts isDigit (drop at text) ≡ true → Reading text at d (at + 1)
+  reading-first l d is h =
+      let e : 10 * 0 + d ≡ d = omega arith in
+      subst (λ (v : ℕ). Reading text at v (at + 1)) e (reading-digit (reading-start l) d is h (omega arith))
 
-module _ (text : List ℕ) (at : ℕ) (h : starts (isByte 45) (drop at text) ≡ true) where
-  minus-there : getD text at 0 ≡ 45
-  minus-there = eqb-true (getD text at 0) 45 (byte-passes text at (isByte 45) h)
+-- ---- the sign
 
-  pub minus-value : numeral (word (drop at text)) ≡ Option·map (λ (v : ℕ). negℤ (pos v)) (digits (word (drop (at + 1) text)))
-  minus-value =
-      numeral-minus (drop at text) h
-      ∙ ap (λ (bs : List ℕ). Option·map (λ (v : ℕ). negℤ (pos v)) (digits (word (drop 1 bs)))) (drop-at text at (inside text at (isByte 45) h))
+pub sign-passed : (text : List ℕ) (at : ℕ) → starts isSign (drop at text) ≡ true → Reaches text (at + 1) (afterSign (drop at text))
+unfolding afterSign
+sign-passed text at h =
+    let here : at < length text = inside text at isSign h in
+    record { inside = omega arith; before = rw (drop-at text at here, byte-passes text at isSign h) }
 
-  pub minus-ahead : afterWord (drop (at + 1) text) ≡ afterWord (drop at text)
-  minus-ahead = from-next text at endsWord (inside text at (isByte 45) h) (ap endsWord minus-there)
+pub no-sign : (bs : List ℕ) → starts isSign bs ≡ false → bs ≡ afterSign bs
+unfolding starts afterSign
+no-sign [] h = refl
+no-sign (b ∷ bs) h = rw h
 
--- ---- a number from its digits: those at the bytes ds, with the sign that stands at the bytes bs
+ahead-step : (plus minus : Bool) (b : ℕ) (bs : List ℕ) → isByte 43 b ≡ plus → isByte 45 b ≡ minus → afterWord (afterSign (b ∷ bs)) ≡ afterWord (b ∷ bs)
+unfolding from afterSign
+ahead-step true minus b bs p m = rw (eqb-true b 43 p)
+ahead-step false true b bs p m = rw (eqb-true b 45 m)
+ahead-step false false b bs p m = rw (p, m)
 
-module _ (text bs ds : List ℕ) (sign : ℕ → ℤ) (by-digits : numeral (word bs) ≡ Option·map sign (digits (word ds))) where
-  pub signed-value : {v next : ℕ} {z : ℤ} → z ≡ sign v → afterWord ds ≡ afterWord bs → NaturalAt text ds (Natural.Value v next)
+sign-ahead : (bs : List ℕ) → afterWord (afterSign bs) ≡ afterWord bs
+unfolding afterSign
+sign-ahead [] = refl
+sign-ahead (b ∷ bs) = ahead-step (isByte 43 b) (isByte 45 b) b bs refl refl
+
+-- ---- a number from its digits
+
+module _ (text bs : List ℕ) where
+  pub signed-value : {v next : ℕ} {z : ℤ} → z ≡ signed (starts (isByte 45) bs) v → NaturalAt text (afterSign bs) (Natural.Value v next)
       → NumberAt text bs (Number.Value z next)
-  signed-value e ahead n = (by-digits ∙ ap (Option·map sign) (n .0) ∙ ap some (sym e), record { inside = n .1 .0 .inside; before = n .1 .0 .before ∙ ahead })
+  signed-value e n = (
+    numeral-signed bs ∙ ap (Option·map (signed (starts (isByte 45) bs))) (n .0) ∙ ap some (sym e),
+    record { inside = n .1 .0 .inside; before = n .1 .0 .before ∙ sign-ahead bs },
+  )
 
-  pub signed-none : NaturalAt text ds Natural.Nothing → NumberAt text bs Number.Nothing
-  signed-none n = by-digits ∙ ap (Option·map sign) n
+  pub signed-none : NaturalAt text (afterSign bs) Natural.Nothing → NumberAt text bs Number.Nothing
+  signed-none n = numeral-signed bs ∙ ap (Option·map (signed (starts (isByte 45) bs))) n

@@ -1,7 +1,8 @@
--- Numbers in a description (01: "A number is an optional minus and 1 to 4 decimal digits; leading zeros and −0 are allowed").
+-- Numbers in a description (01: "A number is an optional minus and 1 to 4 decimal digits; leading zeros and −0 are allowed"; 02, item 1: "may begin
+-- with one plus or one minus, then 1 to 4 digits as before").
 --
 --   digits ds    == the value of 1 to 4 decimal digits, and none for any other bytes
---   numeral w    == the value of a number: an optional minus and 1 to 4 decimal digits
+--   numeral w    == the value of a number: one plus, one minus or no sign, then 1 to 4 decimal digits
 use Prim.Native.Nat.{ℕ, _+_, _-_, _*_}
 use mathlib.Core.Bool.{Bool, true, false, _&&_}
 use mathlib.Core.List.{List, [], _∷_}
@@ -30,11 +31,12 @@ someIf false a = none
 unfoldable pub digits : List ℕ → Option ℕ
 digits ds = someIf (leb 1 (length ds) && (leb (length ds) 4 && allDigits ds)) (decimal 0 ds)
 
--- "A number is an optional minus and 1 to 4 decimal digits": byte 45 is the minus, and −0 is 0
+-- "one plus or one minus, then 1 to 4 digits": byte 43 is the plus, byte 45 the minus; +0 and −0 are 0
 unfoldable pub numeral : List ℕ → Option ℤ
 numeral [] = none
-numeral (b ∷ bs) = signed (eqb b 45)
+numeral (b ∷ bs) = bySign (eqb b 43) (eqb b 45)
   where
-    signed : Bool → Option ℤ
-    signed true = Option·map (λ (v : ℕ). negℤ (pos v)) (digits bs)
-    signed false = Option·map pos (digits (b ∷ bs))
+    bySign : Bool → Bool → Option ℤ
+    bySign true minus = Option·map pos (digits bs)
+    bySign false true = Option·map (λ (v : ℕ). negℤ (pos v)) (digits bs)
+    bySign false false = Option·map pos (digits (b ∷ bs))

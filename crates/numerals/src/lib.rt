@@ -1,11 +1,11 @@
-// Numbers in a text: an optional minus and 1 to 4 decimal digits (01, "Description, sheet, record").
+// Numbers in a text: one plus, one minus or no sign, then 1 to 4 decimal digits (01, "Description, sheet, record"; 02, item 1).
 ghost use mathlib.Core.Path.{_≡_};
-ghost use mathlib.Core.Bool.{true};
+ghost use mathlib.Core.Bool.{true, _&&_};
 ghost use Prim.Native.Nat.{_-_, _<_, _≤_};
-ghost use lib.IntN.{pos, negℤ};
+ghost use lib.Dec.{ltb};
 ghost use lib.ListN.{length, drop};
 ghost use Rattle.numerals.specs.Numeral.{isDigit};
-ghost use Rattle.numerals.specs.Places.{isByte, endsWord, starts, ends, NaturalAt, NumberAt};
+ghost use Rattle.numerals.specs.Places.{isByte, isSign, endsWord, starts, ends, afterSign, signed, Reaches, NaturalAt, NumberAt};
 
 // The value of digits, and the place behind them.
 enum Natural {
@@ -67,22 +67,30 @@ fn digit(b: u8) -> u16
     (b - b'0') as u16
 }
 
-// The digits of the word at the place.
+// Whether a digit stands at place i, as one of the first four from the place on.
+fn digit_follows(text: &[u8], at: usize, i: usize) -> bool
+    requires { ⌜ at ≤ i ⌝ }
+    ensures { λ r. ⌜ r ≡ (ltb (i - at) 4 && starts isDigit (drop i (now (text .entry)))) ⌝ }
+{
+    if i - at < 4 {
+        return digit_at(text, i);
+    }
+    false
+}
+
+// The digits of the word at the place. A fifth digit is no end of a word.
 fn read_digits(text: &[u8], at: usize) -> Natural
     requires { ⌜ at ≤ length (now text) ⌝ }
     ensures { λ r. ⌜ NaturalAt (now (text .entry)) (drop at (now (text .entry))) r ⌝ }
 {
-    let mut v: u16 = 0;
-    let mut i = at;
-    while digit_at(text, i) {
-        if i - at == 4 {
-            return Natural::Nothing;
-        }
+    if !digit_at(text, at) {
+        return Natural::Nothing;
+    }
+    let mut v = digit(text[at]);
+    let mut i = at + 1;
+    while digit_follows(text, at, i) {
         v = 10 * v + digit(text[i]);
         i += 1;
-    }
-    if i == at {
-        return Natural::Nothing;
     }
     if word_ends(text, i) {
         return Natural::Value(v, i);
@@ -90,33 +98,47 @@ fn read_digits(text: &[u8], at: usize) -> Natural
     Natural::Nothing
 }
 
-fn plus(v: u16) -> i16
-    requires { ⌜ v < 10000 ⌝ }
-    ensures { λ r. ⌜ r ≡ pos v ⌝ }
+// Whether a plus or a minus stands at the place.
+fn sign_at(text: &[u8], at: usize) -> bool
+    ensures { λ r. ⌜ r ≡ starts isSign (drop at (now (text .entry))) ⌝ }
 {
+    if at < text.len() {
+        if text[at] == b'+' {
+            return true;
+        }
+        return text[at] == b'-';
+    }
+    false
+}
+
+// The place behind one sign that may stand at the place.
+fn past_sign(text: &[u8], at: usize) -> usize
+    requires { ⌜ at ≤ length (now text) ⌝ }
+    ensures { λ r. ⌜ Reaches (now (text .entry)) r (afterSign (drop at (now (text .entry)))) ⌝ }
+{
+    if sign_at(text, at) {
+        return at + 1;
+    }
+    at
+}
+
+fn with_sign(v: u16, minus: bool) -> i16
+    requires { ⌜ v < 10000 ⌝ }
+    ensures { λ r. ⌜ r ≡ signed minus v ⌝ }
+{
+    if minus {
+        return -(v as i16);
+    }
     v as i16
 }
 
-fn minus(v: u16) -> i16
-    requires { ⌜ v < 10000 ⌝ }
-    ensures { λ r. ⌜ r ≡ negℤ (pos v) ⌝ }
-{
-    -(v as i16)
-}
-
-// The word at the place as a number: an optional minus, then digits.
+// The word at the place as a number: one plus, one minus or no sign, then digits.
 pub fn read_number(text: &[u8], at: usize) -> Number
     requires { ⌜ at ≤ length (now text) ⌝ }
     ensures { λ r. ⌜ NumberAt (now (text .entry)) (drop at (now (text .entry))) r ⌝ }
 {
-    if is_at(text, at, b'-') {
-        return match read_digits(text, at + 1) {
-            Natural::Value(v, next) => Number::Value(minus(v), next),
-            Natural::Nothing => Number::Nothing,
-        };
-    }
-    match read_digits(text, at) {
-        Natural::Value(v, next) => Number::Value(plus(v), next),
+    match read_digits(text, past_sign(text, at)) {
+        Natural::Value(v, next) => Number::Value(with_sign(v, is_at(text, at, b'-')), next),
         Natural::Nothing => Number::Nothing,
     }
 }

@@ -34,7 +34,7 @@ pub fn loader(random: &mut Random) -> LoaderCase {
     LoaderCase { room, text: description(random) }
 }
 
-/// The points in file order with spaces, leading zeros and blank lines wherever they are allowed.
+/// The points in file order with spaces, signs, leading zeros and blank lines wherever they are allowed.
 pub fn styled(points: &[Point], random: &mut Random) -> Vec<u8> {
     let mut text = String::new();
     for p in points {
@@ -57,7 +57,11 @@ fn spaces(least: usize, random: &mut Random) -> String {
 
 fn spelled(number: i16, random: &mut Random) -> String {
     let width = if random.chance(20) { 1 + random.below(4) } else { 1 };
-    let sign = if number < 0 || (number == 0 && random.chance(30)) { "-" } else { "" };
+    let sign = match number {
+        ..0 => "-",
+        0 => random.pick(&["", "-", "+"]),
+        1.. => random.pick(&["", "", "", "+"]),
+    };
     format!("{sign}{:0width$}", number.unsigned_abs())
 }
 
@@ -65,7 +69,7 @@ fn spelled(number: i16, random: &mut Random) -> String {
 const BYTES: &[u8] = b"0123456789- \n\n\r\t+.,x\0\x0b\x7f\xa0\xff";
 
 /// Lines that are faulty, or only look so.
-const LINES: [&str; 16] = [
+const LINES: [&str; 24] = [
     "\n1001 0\n",
     "\n-1 0\n",
     "\n0 751\n",
@@ -82,6 +86,14 @@ const LINES: [&str; 16] = [
     "\n     \n",
     "\n9999 -9999\n",
     "\n--1 1\n",
+    "\n+0 -0\n",
+    "\n+1000 +0750\n",
+    "\n+\n",
+    "\n+ 1\n",
+    "\n5+3\n",
+    "\n++1 1\n",
+    "\n+-1 1\n",
+    "\n1 -+1\n",
 ];
 
 fn damage_text(text: &mut Vec<u8>, random: &mut Random) {

@@ -57,11 +57,12 @@ fn point_on(line: &[u8]) -> Result<Point, Refusal> {
     }
 }
 
-/// An optional minus and 1 to 4 decimal digits.
+/// One plus, one minus or neither, then 1 to 4 decimal digits.
 fn number(word: &[u8]) -> Option<i16> {
-    let (sign, digits) = match word.strip_prefix(b"-") {
-        Some(digits) => (-1, digits),
-        None => (1, word),
+    let (sign, digits) = match word {
+        [b'+', digits @ ..] => (1, digits),
+        [b'-', digits @ ..] => (-1, digits),
+        digits => (1, digits),
     };
     let is_number = (1..=4).contains(&digits.len()) && digits.iter().all(u8::is_ascii_digit);
     is_number.then(|| sign * digits.iter().fold(0, |value, digit| 10 * value + i16::from(digit - b'0')))
@@ -94,14 +95,16 @@ mod tests {
         assert_eq!(loaded(b"0 0"), Ok(vec![(0, 0)]));
         assert_eq!(loaded(b"\n  \n 1   -2  \n\n0003 -0\n"), Ok(vec![(1, -2), (3, 0)]));
         assert_eq!(loaded(b"-0 0750"), Ok(vec![(0, 750)]));
+        assert_eq!(loaded(b"+12 -7\n+0 +0750"), Ok(vec![(12, -7), (0, 750)]));
         assert_eq!(loaded(b"1000 -250\n1000 750\n  "), Ok(vec![(1000, -250), (1000, 750)]));
     }
 
     #[test]
     fn faulty_lines() {
-        let faulty: [&[u8]; 20] = [
+        let faulty: [&[u8]; 27] = [
             b"12345 0", b"01000 0", b"1", b"1 2 3", b"-", b"- 1", b"5-3", b"1 -", b"--1 2", b"1 2\r\n", b"1\t2", b"1 2\0",
-            b"+1 2", b"1,2", b"1.0 2", b"a 1", b"\r\n", b"\t", b"1 2-", b"1\x0b2",
+            b"1,2", b"1.0 2", b"a 1", b"\r\n", b"\t", b"1 2-", b"1\x0b2", b"+", b"+ 1", b"5+3", b"1 +", b"++1 2", b"+-1 2",
+            b"-+1 2", b"+12345 0",
         ];
         for line in faulty {
             assert_eq!(loaded(line), Err(2), "{line:?}");

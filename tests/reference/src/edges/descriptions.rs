@@ -24,7 +24,7 @@ fn loading(says: &'static str, room: usize, text: impl AsRef<[u8]>, gives: Answe
 }
 
 #[rustfmt::skip]
-const TEXTS: [(&str, &[Row]); 7] = [
+const TEXTS: [(&str, &[Row]); 8] = [
     ("x from 0 to 1000, y from −250 to 750 (the em box). 3: a corner outside the em box", &[
         ("1000 0\n", Ok(&[(1000, 0)])),
         ("1000 0", Ok(&[(1000, 0)])),
@@ -57,11 +57,49 @@ const TEXTS: [(&str, &[Row]); 7] = [
         ("- 1 2\n", Err(2)),
         ("1 -\n", Err(2)),
         ("--1 2\n", Err(2)),
-        ("+1 2\n", Err(2)),
         ("5-3\n", Err(2)),
         ("5-3", Err(2)),
         ("1a 2\n", Err(2)),
         ("1.5 2,5\n", Err(2)),
+    ]),
+    ("A number .. may begin with one plus or one minus, then 1 to 4 digits as before. \"+0\" is 0; \"+-1\" and \"++1\" are refused as 2 (02, item 1)", &[
+        ("+12 -7\n", Ok(&[(12, -7)])),
+        ("+12 -7", Ok(&[(12, -7)])),
+        ("+0 -0\n", Ok(&[(0, 0)])),
+        ("-0 +0000", Ok(&[(0, 0)])),
+        ("+1000 +750\n", Ok(&[(1000, 750)])),
+        ("  +0012   +0003  \n 4 -5", Ok(&[(12, 3), (4, -5)])),
+        ("1 2\n+3 +4\n5 6\n", Ok(&[(1, 2), (3, 4), (5, 6)])),
+        ("+\n", Err(2)),
+        ("+", Err(2)),
+        ("1 +\n", Err(2)),
+        ("+ 1\n", Err(2)),
+        ("+ 1 2\n", Err(2)),
+        ("+-1 2\n", Err(2)),
+        ("++1 2\n", Err(2)),
+        ("-+1 2\n", Err(2)),
+        ("1 +-2\n", Err(2)),
+        ("1 ++2", Err(2)),
+        ("1 -+2\n", Err(2)),
+        ("1+ 2\n", Err(2)),
+        ("1 2+\n", Err(2)),
+        ("1+2\n", Err(2)),
+        ("+12345 0\n", Err(2)),
+        ("0 +00250\n", Err(2)),
+        ("3 4\n+\n", Err(2)),
+        ("3 4\n+ 1 2\n", Err(2)),
+        ("3 4\n+-1 2\n", Err(2)),
+        ("3 4\n++1 2\n", Err(2)),
+        ("3 4\n-+1 2\n", Err(2)),
+        ("3 4\n1+ 2\n", Err(2)),
+        ("3 4\n+12345 0", Err(2)),
+        ("+1001 0\n", Err(3)),
+        ("0 +751\n", Err(3)),
+        ("+1001 ++1\n", Err(2)),
+        ("+-1 +751\n", Err(2)),
+        ("3 4\n+9999 1+\n", Err(2)),
+        ("+1001 0\n++1 0\n", Err(3)),
+        ("++1 0\n+1001 0\n", Err(2)),
     ]),
     ("Lines end with byte 10 or at the end of the bytes", &[
         ("1 2\n3 4", Ok(&[(1, 2), (3, 4)])),
@@ -107,6 +145,10 @@ fn most_points() -> impl Iterator<Item = Loading> {
         ("0 x\n", Err(2)),
         ("1001 0\n", Err(3)),
         ("0 0\nx\n", Err(4)),
+        ("+0 +0\n", Err(4)),
+        ("+1001 0\n", Err(3)),
+        ("++1 0\n", Err(2)),
+        ("+1001 +-1\n", Err(2)),
     ];
     rows.into_iter().map(move |(more, gives)| loading(says, AMPLE, padded(&("0 0\n".repeat(4_096) + more), 16_448), gives))
 }
