@@ -105,8 +105,9 @@ typedef struct {
 } volkhidar_record_answer;
 
 /*
- * Reads a description: a point a line, "x y" in decimal. The points go to the front of `list` in the order of the lines, x and y by
- * turns; the rest of the list stays. `count` is how many points there are, so the first 2 * count numbers were written.
+ * Reads a description: a point a line, "x y" in decimal, each number of 1 to 4 digits with one plus, one minus or no sign before
+ * them. The points go to the front of `list` in the order of the lines, x and y by turns; the rest of the list stays. `count` is how
+ * many points there are, so the first 2 * count numbers were written.
  * Refusals, in this order: 8 for a list under 8,192 numbers; 1; the first faulty line, by 2, then 3, then 4; 5.
  */
 volkhidar_load_answer volkhidar_load(const uint8_t *text, size_t text_length, int16_t *list, size_t list_length);

@@ -47,8 +47,9 @@ pub const LIST_LENGTH: usize = 8_192;
 /// The bytes of a record.
 pub const RECORD_LENGTH: usize = 44;
 
-/// Reads a description: a point a line, "x y" in decimal. The points go to the front of the list in the order of the lines, x and y by
-/// turns, and the rest of the list stays; the answer is how many there are.
+/// Reads a description: a point a line, "x y" in decimal, each number of 1 to 4 digits with one plus, one minus or no sign before them.
+/// The points go to the front of the list in the order of the lines, x and y by turns, and the rest of the list stays; the answer is how
+/// many there are.
 ///
 /// Refuses, in this order: [`Refusal::NoRoom`] for a list under [`LIST_LENGTH`] numbers, [`Refusal::TooLong`]; the first faulty line,
 /// by [`Refusal::BadLine`], [`Refusal::OutsideBox`], [`Refusal::TooMany`]; [`Refusal::NoPoint`].
@@ -57,10 +58,11 @@ pub const RECORD_LENGTH: usize = 44;
 /// use volkhidar::{load, Refusal, LIST_LENGTH};
 ///
 /// let mut list = [-1; LIST_LENGTH];
-/// assert_eq!(load(b" 7 -250 \n\n8 0", &mut list), Ok(2));
+/// assert_eq!(load(b" 7 -250 \n\n+8 +0", &mut list), Ok(2));
 /// assert_eq!(list[..5], [7, -250, 8, 0, -1]);
 /// assert_eq!(load(b"7 751", &mut list), Err(Refusal::OutsideBox));
 /// assert_eq!(load(b"7\t0", &mut list), Err(Refusal::BadLine));
+/// assert_eq!(load(b"+-7 0", &mut list), Err(Refusal::BadLine));
 /// ```
 pub fn load(text: &[u8], list: &mut [i16]) -> Result<usize, Refusal> {
     let answer = unsafe { raw::volkhidar_load(text.as_ptr(), text.len(), list.as_mut_ptr(), list.len()) };
