@@ -65,8 +65,14 @@ fn circle_about(qx: i64, qy: i64, ux: i64, uy: i64, vx: i64, vy: i64) -> Relativ
     let v = vx * vx + vy * vy;
     let gx = u * vy - v * uy;
     let gy = v * ux - u * vx;
-    if 0 < e {
-        return RelativeDisk { e, qx, qy, gx, gy };
+    if e == 0 {
+        return RelativeDisk {
+            e,
+            qx,
+            qy,
+            gx: 0,
+            gy: 0,
+        };
     }
     if e < 0 {
         return RelativeDisk {
@@ -77,13 +83,7 @@ fn circle_about(qx: i64, qy: i64, ux: i64, uy: i64, vx: i64, vy: i64) -> Relativ
             gy: -gy,
         };
     }
-    RelativeDisk {
-        e,
-        qx,
-        qy,
-        gx: 0,
-        gy: 0,
-    }
+    RelativeDisk { e, qx, qy, gx, gy }
 }
 
 // The circle through (ax, ay), (bx, by) and (cx, cy).

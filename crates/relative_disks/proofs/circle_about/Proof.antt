@@ -1,8 +1,14 @@
 -- `relative_disks::circle_about` meets its contract: no step overflows, so the machine's numbers are those of `circleAbout`.
-use mathlib.Core.Path.{_≡_, refl, sym, _∙_}
-use mathlib.Core.Bool.{true, false}
-use lib.IntN.{ℤ, pos, _-ℤ_, _*ℤ_}
+use Prim.Native.Nat.{zero, suc, _≤_}
+use mathlib.Core.Path.{_≡_, refl, sym, ap, _∙_}
+use mathlib.Core.Bool.{true, false, true≢false}
+use lib.IntN.{ℤ, pos, negsuc, _-ℤ_, _*ℤ_}
+use native.Mathlib.Omega.{arith}
+use borrow.Author.Tests.{le-leb, leb-true}
 use lib.Signed.{ltZ}
+use mir.Syntax.{w64}
+use mir.Val.{toZ}
+use mir.Facts.{fits-ofZ, toZ-inj}
 use Rattle.integers.proofs.Bounds.{machine, t-lt, fits, reads-as, tests-as}
 use Rattle.integers.proofs.Laws.{zero-+}
 use Rattle.relative_disks.proofs.RelativeLaws.{same-numbers, circle-by}
@@ -70,22 +76,32 @@ sub-t18 c = fits (search machine depth 60 fits 9000) tt
 abbrev e : tie.Start → ℤ
 e c = pos 2 *ℤ (c .args .ux *ℤ c .args .vy -ℤ c .args .uy *ℤ c .args .vx)
 
-positive : (c : tie.Then1) → ltZ (pos 0) (e (c .before)) ≡ true
-positive c = sym (tests-as (search (machine, t-lt) depth 60 fits 9000) tt) ∙ c .if1 .taken
+negative-only : (z : ℤ) → ltZ z (pos 0) ≡ true → ltZ (pos 0) z ≡ false
+negative-only (pos n) h = let none : suc n ≤ 0 = leb-true (suc n) 0 h in absurd (omega arith)
+negative-only (negsuc n) h = refl
 
-not-positive : (c : tie.Else1) → ltZ (pos 0) (e (c .before)) ≡ false
-not-positive c = sym (tests-as (search (machine, t-lt) depth 60 fits 9000) tt) ∙ c .if1 .left
+positive-else : (z : ℤ) → (z ≡ pos 0 → ⊥) → ltZ z (pos 0) ≡ false → ltZ (pos 0) z ≡ true
+positive-else (pos zero) n h = absurd (n refl)
+positive-else (pos (suc k)) n h = le-leb 1 (suc k) (omega arith)
+positive-else (negsuc k) n h = absurd (true≢false h)
+
+in-a-row : (c : tie.Then1) → e (c .before) ≡ pos 0
+in-a-row c = sym (reads-as (search machine depth 60 fits 9000) tt) ∙ ap (toZ w64) (c .if1 .taken)
+
+not-in-a-row : (c : tie.Else1) → e (c .before) ≡ pos 0 → ⊥
+not-in-a-row c z = c .if1 .left (toZ-inj (fits-ofZ (mul-e-3 (c .before))) (omega arith) (reads-as (search machine depth 60 fits 9000) tt ∙ z))
 
 returns : tie.Need-returns
 returns c =
     let a = c .before .args in
+    let none = in-a-row c in
     same-numbers
     (reads-as (search machine depth 60 fits 9000) tt)
     (reads-as (search machine depth 60 fits 9000) tt)
     (reads-as (search machine depth 60 fits 9000) tt)
-    (reads-as (search machine depth 60 fits 9000) tt)
-    (reads-as (search machine depth 60 fits 9000) tt)
-    ∙ circle-by (a .qx) (a .qy) (a .ux) (a .uy) (a .vx) (a .vy) true _ (positive c) refl
+    refl
+    refl
+    ∙ circle-by (a .qx) (a .qy) (a .ux) (a .uy) (a .vx) (a .vy) false false (ap (ltZ (pos 0)) none) (ap (λ (z : ℤ). ltZ z (pos 0)) none)
 
 returns-2 : tie.Need-returns-2
 returns-2 c =
@@ -97,7 +113,7 @@ returns-2 c =
     (reads-as (search machine depth 60 fits 9000) tt)
     (reads-as (search machine depth 60 fits 9000) tt ∙ zero-+ _)
     (reads-as (search machine depth 60 fits 9000) tt ∙ zero-+ _)
-    ∙ circle-by (a .qx) (a .qy) (a .ux) (a .uy) (a .vx) (a .vy) false true (not-positive (c .before)) negative
+    ∙ circle-by (a .qx) (a .qy) (a .ux) (a .uy) (a .vx) (a .vy) false true (negative-only (e (c .before .before)) negative) negative
 
 returns-3 : tie.Need-returns-3
 returns-3 c =
@@ -107,9 +123,9 @@ returns-3 c =
     (reads-as (search machine depth 60 fits 9000) tt)
     (reads-as (search machine depth 60 fits 9000) tt)
     (reads-as (search machine depth 60 fits 9000) tt)
-    refl
-    refl
-    ∙ circle-by (a .qx) (a .qy) (a .ux) (a .uy) (a .vx) (a .vy) false false (not-positive (c .before)) not-negative
+    (reads-as (search machine depth 60 fits 9000) tt)
+    (reads-as (search machine depth 60 fits 9000) tt)
+    ∙ circle-by (a .qx) (a .qy) (a .ux) (a .uy) (a .vx) (a .vy) true _ (positive-else (e (c .before .before)) (not-in-a-row (c .before)) not-negative) refl
 
 pub circle-about-spec : {M : Type 1} → statement M
 circle-about-spec =
