@@ -1,4 +1,4 @@
--- `description::line_ends` meets its contract: inside the text the byte there decides.
+-- `lines::line_ends` meets its contract: inside the text the byte there decides.
 use borrow.Author.Needs.{needs}
 use Rattle.numerals.specs.Places.{isFeed}
 use Rattle.numerals.proofs.Places.{ends-in, ends-out}

@@ -1,4 +1,4 @@
--- `description::past_feed` meets its contract: one byte on, or nothing left.
+-- `lines::past_feed` meets its contract: one byte on, or nothing left.
 use mathlib.Core.Path.{sym, ap, _∙_}
 use native.Mathlib.Omega.{arith}
 use borrow.Author.Needs.{needs}

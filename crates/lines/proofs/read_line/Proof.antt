@@ -1,4 +1,4 @@
--- `description::read_line` meets its contract: each call finds the next part of the line, and the laws of `Lines` put them together.
+-- `lines::read_line` meets its contract: each call finds the next part of the line, and the laws of `Lines` put them together.
 use mathlib.Core.Path.{sym, _∙_, ap, ap₂, subst}
 use borrow.Author.Needs.{needs}
 use lib.IntN.{ℤ}

@@ -1,4 +1,4 @@
--- `description::skip_spaces` meets its contract. The invariant: what follows the spaces from the place on follows those from the start on.
+-- `lines::skip_spaces` meets its contract. The invariant: what follows the spaces from the place on follows those from the start on.
 -- The measure is what is left of the text.
 use Prim.Native.Nat.{_-_, _≤_, _<_}
 use mathlib.Core.Path.{_≡_, refl, sym, ap, _∙_}

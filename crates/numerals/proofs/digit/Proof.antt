@@ -1,4 +1,4 @@
--- `description::digit` meets its contract: a digit is at least 48.
+-- `numerals::digit` meets its contract: a digit is at least 48.
 use borrow.Author.Tests.{leb-true}
 use borrow.Author.Needs.{needs}
 use lib.Dec.{leb}

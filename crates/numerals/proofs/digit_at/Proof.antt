@@ -1,4 +1,4 @@
--- `description::digit_at` meets its contract: inside the text the byte there decides.
+-- `numerals::digit_at` meets its contract: inside the text the byte there decides.
 use mathlib.Core.Path.{_∙_}
 use borrow.Author.Needs.{needs}
 use Rattle.numerals.specs.Numeral.{isDigit}

@@ -1,4 +1,4 @@
--- `description::is_at` meets its contract: inside the text the byte there decides.
+-- `numerals::is_at` meets its contract: inside the text the byte there decides.
 use borrow.Author.Needs.{needs}
 use Rattle.numerals.specs.Places.{isByte}
 use Rattle.numerals.proofs.Places.{starts-in, starts-out}

@@ -1,4 +1,4 @@
--- `description::is_digit` meets its contract: each test is one of `isDigit`'s row.
+-- `numerals::is_digit` meets its contract: each test is one of `isDigit`'s row.
 use mathlib.Core.Path.{refl}
 use borrow.Author.Tests.{le-leb, lt-leb}
 use lib.Dec.{leb}

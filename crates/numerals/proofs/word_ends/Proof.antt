@@ -1,4 +1,4 @@
--- `description::word_ends` meets its contract: inside the text the byte there decides.
+-- `numerals::word_ends` meets its contract: inside the text the byte there decides.
 use borrow.Author.Tests.{eq-eqb, ne-eqb}
 use borrow.Author.Needs.{needs}
 use Rattle.numerals.specs.Places.{endsWord}
