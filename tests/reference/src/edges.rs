@@ -1,4 +1,4 @@
-//! The edges of document 01 by hand: its words, an input that they settle, and what must come out, side by side.
+//! The edges of documents 01 and 02 by hand: their words, an input that they settle, and what must come out, side by side.
 //!
 //! Each edge is a test of this implementation (below) and a stored case of the product ([`crate::stored`]). What must come out was
 //! worked out by no program.
@@ -11,7 +11,7 @@ pub use descriptions::descriptions;
 pub use records::{readings, writings};
 pub use sheets::{parts, sheets};
 
-/// The words of document 01 (where it leaves a point open, of docs/DECISIONS.md), what a call is given, and what it must give.
+/// The words of document 01 or 02 (where they leave a point open, of docs/DECISIONS.md), what a call is given, and what it must give.
 pub struct Edge<Input, Output> {
     pub says: &'static str,
     pub given: Input,
