@@ -17,9 +17,10 @@ use native.Mathlib.Omega.{arith}
 use lib.Dec.{leb}
 use lib.ListN.{length}
 use borrow.Author.Tests.{le-leb, lt-leb, eqb-true}
+use Rattle.integers.specs.Order.{signed}
 use Rattle.integers.proofs.Tests.{stop}
 use Rattle.numerals.specs.Numeral.{isDigit, allDigits, decimal, someIf, digits, numeral}
-use Rattle.numerals.specs.Places.{isByte, endsWord, upTo, starts, afterSign, signed, word}
+use Rattle.numerals.specs.Places.{isByte, endsWord, upTo, starts, afterSign, word}
 
 pub more : ℕ → ℕ → List ℕ → Option ℕ
 more k v ds = someIf (leb 1 (k + length ds) && (leb (k + length ds) 4 && allDigits ds)) (decimal v ds)

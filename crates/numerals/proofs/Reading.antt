@@ -16,11 +16,12 @@ use lib.Dec.{leb, ltb}
 use lib.IntN.{ℤ}
 use lib.ListN.{length, getD, drop}
 use borrow.Author.Tests.{leb-true, ltb-false, ne-eqb, eqb-true}
+use Rattle.integers.specs.Order.{signed}
 use Rattle.integers.proofs.Tests.{first, rest}
 use Rattle.numerals.specs.declared.Natural.the-variants as Natural
 use Rattle.numerals.specs.declared.Number.the-variants as Number
 use Rattle.numerals.specs.Numeral.{isDigit, digits}
-use Rattle.numerals.specs.Places.{isByte, isSign, endsWord, from, starts, ends, afterSign, signed, word, afterWord, Reaches, NaturalAt, NumberAt}
+use Rattle.numerals.specs.Places.{isByte, isSign, endsWord, from, starts, ends, afterSign, word, afterWord, Reaches, NaturalAt, NumberAt}
 use Rattle.numerals.proofs.Places.{drop-at, up-to-here, from-here, up-to-on, up-to-next, from-next, inside, byte-passes}
 use Rattle.numerals.proofs.Digits.{more, more-start, more-digit, more-end, more-empty, more-long, more-other, grown, fewer-digits, numeral-signed}
 

@@ -6,7 +6,6 @@
 --   starts f bs          == there is a first byte, and f holds of it
 --   ends f bs            == there is none, or f holds of it
 --   afterSign bs         == the bytes behind one plus or one minus that may stand at the front
---   signed minus v       == the number of the value v, negated where there is a minus
 --   Reaches text i rest  == i is a place of the text, and the bytes rest follow it
 --   NaturalAt, NumberAt  == what the answers for the digits and the number at a place say
 use Prim.Native.Nat.{ℕ, _<_, _≤_}
@@ -15,7 +14,7 @@ use mathlib.Core.Bool.{Bool, true, false, not, _||_}
 use mathlib.Core.List.{List, [], _∷_}
 use mathlib.Core.Option.{none, some}
 use lib.Dec.{eqb}
-use lib.IntN.{ℤ, pos, negℤ}
+use lib.IntN.{ℤ}
 use lib.ListN.{length, drop}
 use Rattle.numerals.specs.declared.Natural as natural
 use Rattle.numerals.specs.declared.Natural.{Natural}
@@ -74,10 +73,6 @@ isSign b = isByte 43 b || isByte 45 b
 unfoldable pub afterSign : List ℕ → List ℕ
 afterSign [] = []
 afterSign (b ∷ bs) = keepFrom (isSign b) bs (b ∷ bs)
-
-abbrev pub signed : Bool → ℕ → ℤ
-signed true v = negℤ (pos v)
-signed false v = pos v
 
 pub record Reaches (text : List ℕ) (i : ℕ) (rest : List ℕ) : Type 0 where
   pub inside : i ≤ length text

@@ -4,8 +4,9 @@ ghost use mathlib.Core.Bool.{true, _&&_};
 ghost use Prim.Native.Nat.{_-_, _<_, _≤_};
 ghost use lib.Dec.{ltb};
 ghost use lib.ListN.{length, drop};
+ghost use Rattle.integers.specs.Order.{signed};
 ghost use Rattle.numerals.specs.Numeral.{isDigit};
-ghost use Rattle.numerals.specs.Places.{isByte, isSign, endsWord, starts, ends, afterSign, signed, Reaches, NaturalAt, NumberAt};
+ghost use Rattle.numerals.specs.Places.{isByte, isSign, endsWord, starts, ends, afterSign, Reaches, NaturalAt, NumberAt};
 
 // The value of digits, and the place behind them.
 enum Natural {

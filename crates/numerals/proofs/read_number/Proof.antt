@@ -6,8 +6,9 @@ use Prim.Native.Nat.{ℕ}
 use borrow.Author.Needs.{needs}
 use lib.ListN.{drop}
 use mir.Facts.{toZ-ofZ}
+use Rattle.integers.specs.Order.{signed}
 use Rattle.numerals.specs.declared.Natural.the-variants.{Value}
-use Rattle.numerals.specs.Places.{afterSign, signed, NaturalAt}
+use Rattle.numerals.specs.Places.{afterSign, NaturalAt}
 use Rattle.numerals.proofs.Reading.{signed-value, signed-none}
 use Rattle.numerals.proofs.read_number.Statement.{statement}
 use Rattle.numerals.proofs.read_number.Tie as tie
