@@ -1,4 +1,4 @@
-// Refusals: why a call turns its input down (01, "What a refused call hands back").
+// Refusals: why a call turns its input down (01, "What a refused call hands back"; from 11 on, 02).
 ghost use mathlib.Core.Path.{_≡_};
 ghost use Rattle.answers.specs.Outcome.{numberOf};
 
@@ -23,9 +23,11 @@ pub enum Refusal {
     OddLength,
     // A glyph number not below the count.
     NoGlyph,
+    // A NaN, an infinity or a float with a fraction in a point's x or y.
+    NotWhole,
 }
 
-// The number that document 01 gives the refusal.
+// The number that document 01 or 02 gives the refusal.
 pub fn number(r: Refusal) -> u8
     ensures { λ n. ⌜ n ≡ numberOf r ⌝ }
 {
@@ -40,5 +42,6 @@ pub fn number(r: Refusal) -> u8
         Refusal::NoRoom => 8,
         Refusal::OddLength => 9,
         Refusal::NoGlyph => 10,
+        Refusal::NotWhole => 11,
     }
 }

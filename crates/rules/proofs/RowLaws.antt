@@ -13,11 +13,8 @@ use mathlib.Core.Bool.{Bool, true, false}
 use mathlib.Core.List.{List, [], _∷_, _++_}
 use Prim.Native.Nat.{ℕ}
 use Rattle.answers.specs.Outcome.{Outcome, given, refused, refuseIf, andThen}
-use Rattle.answers.proofs.OutcomeLaws.{not-given}
+use Rattle.answers.proofs.OutcomeLaws.{not-given, refused-same}
 use Rattle.rules.specs.Row.{Rule, _unless_, DueFirst, AllKept, GoesBy}
-
-refused-same : {A : Type 0} {n m : ℕ} → _≡_ {A = Outcome A} (refused n) (refused m) → n ≡ m
-refused-same e = cc
 
 pub row-end : {A : Type 0} (a : A) → GoesBy [] (given a)
 row-end a = record {

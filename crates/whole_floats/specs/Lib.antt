@@ -1,0 +1,3 @@
+pub mod Whole
+-- of inner contracts
+pub mod Near
