@@ -1,0 +1,2 @@
+pub mod Boxes
+pub mod Behind

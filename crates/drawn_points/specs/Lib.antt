@@ -1,0 +1,3 @@
+pub mod Appending
+-- of inner contracts
+pub mod Judging
