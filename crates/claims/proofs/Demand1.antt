@@ -3,6 +3,7 @@ use mathlib.Core.Path.{ap}
 use Rattle.answers.specs.Outcome.{Outcome}
 use Rattle.description.proofs.Loading.{after-refused}
 use Rattle.engine.proofs.Checks.{list-refused}
+use Rattle.drawn_points.proofs.Behind.{append-refused}
 use Rattle.record_writer.specs.Writing.{leftBy}
 use Rattle.rules.proofs.Calls as calls
 use Rattle.claims.specs.Demand1.{Demand1}
@@ -16,7 +17,9 @@ demand-one = record {
   preview = calls.preview;
   writer = calls.writer;
   reader = calls.reader;
+  append = calls.append;
   loader-keeps = λ t l n e. after-refused t l n e;
   engine-keeps = λ l n e. list-refused l e;
   writer-keeps = λ d ps b n e. ap (λ (o : Outcome (Unit {0})). leftBy o d ps b) e;
+  append-keeps = λ p l n k e. append-refused p l n e;
 }

@@ -51,7 +51,7 @@ use Rattle.claims.proofs.Demand2.{engine-right}
 use Rattle.claims.proofs.Demand3.{answers, worked-is}
 use Rattle.claims.proofs.Values.{all-values}
 
-both-given : {A B : Type 0} (o : Outcome A) (f : A → Outcome B) (b : B) → andThen o f ≡ given b → (a : A) × ((o ≡ given a) × (f a ≡ given b))
+pub both-given : {A B : Type 0} (o : Outcome A) (f : A → Outcome B) (b : B) → andThen o f ≡ given b → (a : A) × ((o ≡ given a) × (f a ≡ given b))
 both-given (given a) f b e = (a, (refl, e))
 both-given (refused n) f b e = absurd (not-given e)
 

@@ -5,8 +5,8 @@
 --   Demand1   == each call goes by its row of rules, and a refused call leaves what it was lent as it was
 --
 -- `GoesBy row o`: o is refused with n exactly where n is due first by the row, and a value is given exactly where every rule is kept (rules/specs/Row.antt).
--- The rows, with document 01's numbers in its order: rules/specs/Rules.antt. The loader is lent a list, the engine its point list and the writer a
--- buffer; descriptions, sheets and records are lent to be read alone.
+-- The rows, with the papers' numbers in their order: rules/specs/Rules.antt. The loader is lent a list, the engine its point list, the writer a
+-- buffer, and the call of document 02, item 2 a list that it puts a point into; descriptions, sheets and records are lent to be read alone.
 use mathlib.Core.Path.{_≡_}
 use mathlib.Core.List.{List}
 use Prim.Native.Nat.{ℕ}
@@ -16,6 +16,9 @@ use Rattle.geometry.specs.declared.Point.{Point}
 use Rattle.geometry.specs.declared.Disk.{Disk}
 use Rattle.description.specs.Description as description
 use Rattle.description.specs.Description.{loadOf}
+use Rattle.drawn_points.specs.declared.DrawnPoint.{DrawnPoint}
+use Rattle.drawn_points.specs.Appending as drawn
+use Rattle.drawn_points.specs.Appending.{appendOf}
 use Rattle.sheet.specs.Sheet.{glyphOf}
 use Rattle.engine.specs.Engine.{encloseOf, listAfter}
 use Rattle.preview.specs.Preview.{previewOf}
@@ -23,7 +26,7 @@ use Rattle.radius.specs.Radius.{radiusOf}
 use Rattle.record_writer.specs.Writing.{writeOf, bufferAfter}
 use Rattle.record_reader.specs.Reading.{readOf}
 use Rattle.rules.specs.Row.{GoesBy}
-use Rattle.rules.specs.Rules.{Bytes, loaderRow, sheetRow, engineRow, writerRow, readerRow, diskRow}
+use Rattle.rules.specs.Rules.{Bytes, loaderRow, sheetRow, engineRow, writerRow, readerRow, diskRow, appendRow}
 
 pub record Demand1 : Type 0 where
   -- "the call gives the refusal number due first .. if none is broken, it is not refused"
@@ -34,7 +37,9 @@ pub record Demand1 : Type 0 where
   pub preview : (d : Disk) (ps : List Point) → GoesBy (diskRow d ps) (previewOf d ps)
   pub writer : (d : Disk) (ps : List Point) (b : List ℕ) → GoesBy (writerRow d ps b) (writeOf d ps b)
   pub reader : (bs : List ℕ) → Bytes bs → GoesBy (readerRow bs) (readOf bs)
+  pub append : (p : DrawnPoint) (l : List ℤ) (n : ℕ) → GoesBy (appendRow p l n) (appendOf p l n)
   -- "and changes nothing it was lent"
   pub loader-keeps : (t : List ℕ) (l : List ℤ) (n : ℕ) → loadOf t l ≡ refused n → description.listAfter t l ≡ l
   pub engine-keeps : (l : List ℤ) (n : ℕ) → encloseOf l ≡ refused n → listAfter l ≡ l
   pub writer-keeps : (d : Disk) (ps : List Point) (b : List ℕ) (n : ℕ) → writeOf d ps b ≡ refused n → bufferAfter d ps b ≡ b
+  pub append-keeps : (p : DrawnPoint) (l : List ℤ) (n k : ℕ) → appendOf p l n ≡ refused k → drawn.listAfter p l n ≡ l

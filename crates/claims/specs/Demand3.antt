@@ -5,8 +5,9 @@
 --                           most (n³ + 5n) / 6
 --   AcceptedDescription  == a description that the loader, lent some list, does not refuse
 --   Answers              == what the calls give for a description: disk, support set, whole radius, the preview's bits and the record
+--   answersFor e b       == whole radius, preview and writer, lent the buffer b, given the disk and support set e that the engine returned
 --   worked t l b         == the calls one after another for the description t, lent the list l and the buffer b: loader, then engine, given
---                           the loader's points alone (letter: `enclosureIn`); whole radius, preview and writer, given what the engine returned
+--                           the loader's points alone (letter: `enclosureIn`); then `answersFor`
 --   WorkedOut l bs       == bs is a record worked out for the accepted list l, in some buffer that the writer does not refuse
 --   Demand3              == all of demand 3
 use mathlib.Core.Path.{_≡_}
@@ -66,9 +67,8 @@ pub record Answers : Type 0 where
   pub shown : List ℕ
   pub bytes : List ℕ
 
-unfoldable pub worked : List ℕ → List ℤ → List ℕ → Outcome Answers
-worked t l b =
-    andThen (enclosureIn t l) (λ e.
+abbrev pub answersFor : Enclosure → List ℕ → Outcome Answers
+answersFor e b =
     andThen (radiusOf (e .disk) (e .support)) (λ r.
     andThen (previewOf (e .disk) (e .support)) (λ p.
     andThen (writeOf (e .disk) (e .support) b) (λ done.
@@ -78,7 +78,10 @@ worked t l b =
       radius = r;
       shown = bits p;
       bytes = take recordLength (bufferAfter (e .disk) (e .support) b);
-    })))))
+    }))))
+
+unfoldable pub worked : List ℕ → List ℤ → List ℕ → Outcome Answers
+worked t l b = andThen (enclosureIn t l) (λ e. answersFor e b)
 
 -- ---- records worked out
 

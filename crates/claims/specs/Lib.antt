@@ -4,3 +4,4 @@ pub mod Demand3
 pub mod FromFixed
 pub mod Values
 pub mod Whole
+pub mod DrawnPoints

@@ -1,23 +1,25 @@
 -- Each public call goes by its row of rules (specs/Rules.antt).
 --
---   loader, sheet, engine, radius, preview, writer, reader : the calls
-use mathlib.Core.Path.{_≡_, sym, ap, _∙_}
+--   loader, sheet, engine, radius, preview, writer, reader, append : the calls
+use mathlib.Core.Path.{_≡_, sym, ap, _∙_, subst}
 use mathlib.Core.Bool.{Bool, true, not, true≢false}
-use mathlib.Core.List.{List}
-use Prim.Native.Nat.{ℕ, _*_, _/_, _%_, _≤_, _<_}
+use mathlib.Core.List.{List, [], _∷_}
+use Prim.Native.Nat.{ℕ, suc, _*_, _/_, _%_, _≤_, _<_}
 use native.Mathlib.Omega.{arith}
 use borrow.Author.Tests.{ltb-true, ltb-false, leb-true, leb-false, eqb-true, eqb-false, eq-eqb, not-true, not-false}
 use lib.Dec.{eqb, leb, ltb}
 use lib.IntN.{ℤ}
 use lib.ListN.{length}
-use Rattle.answers.specs.Outcome.{given, refuseIf}
+use Rattle.answers.specs.Outcome.{Outcome, given, refuseIf, andThen}
 use Rattle.answers.proofs.OutcomeLaws.{not-refused}
 use Rattle.geometry.specs.declared.Point.{Point}
 use Rattle.geometry.specs.declared.Disk.{Disk}
-use Rattle.geometry.specs.EmBox.{allInEmBox}
+use Rattle.geometry.specs.EmBox.{em, Inside, inEmBox, allInEmBox}
 use Rattle.geometry.specs.Points.{points}
 use Rattle.geometry.proofs.PointLists.{firstPoints-all, length-firstPoints}
 use Rattle.description.specs.Description.{linesRead, loadOf}
+use Rattle.drawn_points.specs.declared.DrawnPoint.{DrawnPoint}
+use Rattle.drawn_points.specs.Appending.{placeOf, takenOf, appendOf}
 use Rattle.sheet.specs.Sheet.{count, directoryEnd, pair, pairs, follow, glyphOf}
 use Rattle.engine.specs.Engine.{enclosure, encloseOf}
 use Rattle.engine.proofs.Checks.{even-length}
@@ -28,13 +30,14 @@ use Rattle.record_writer.specs.Writing.{writeOf}
 use Rattle.record_reader.specs.Reading.{diskIn, pointsIn, readOf}
 use Rattle.record_reader.proofs.RoundTrip.{read-written, written-again}
 use Rattle.preview.specs.Preview.{floats, previewOf}
-use Rattle.rules.specs.Row.{GoesBy}
-use Rattle.rules.specs.Rules.{Bytes, IsRecord, loaderRow, sheetRow, engineRow, writerRow, readerRow, diskRow}
-use Rattle.rules.proofs.RowLaws.{row-end, row-step}
-use Rattle.geometry.proofs.EmBox.{all-inside, inside-all}
+use Rattle.rules.specs.Row.{_unless_, GoesBy}
+use Rattle.rules.specs.Rules.{Bytes, IsRecord, Names, loaderRow, sheetRow, engineRow, writerRow, readerRow, diskRow, appendRow}
+use Rattle.rules.proofs.RowLaws.{row-end, row-step, row-then, row-through}
+use Rattle.geometry.proofs.EmBox.{inside, inside-test, all-inside, inside-all}
 use Rattle.rules.proofs.Recordables.{valid-recordable, recordable-valid}
 use Rattle.rules.proofs.Sheets.{in-order, ordered}
 use Rattle.rules.proofs.Lines.{lines-judged}
+use Rattle.rules.proofs.Drawings.{place-names, named-once, placed}
 
 -- ---- a check, and what it says
 
@@ -137,3 +140,24 @@ radius d ps = checked d ps (wholeRadius d)
 
 pub preview : (d : Disk) (ps : List Point) → GoesBy (diskRow d ps) (previewOf d ps)
 preview d ps = checked d ps (floats d (wholeRadius d))
+
+-- the checks of a point that p names: 3, then 4
+boxed-and-few : (p : DrawnPoint) (n : ℕ) (c : Point) → placeOf p ≡ given c
+    → GoesBy (3 unless ((d : Point) → Names p d → Inside em d) ∷ 4 unless (n < 4096) ∷ []) (refuseIf (not (inEmBox c)) 3 (refuseIf (leb 4096 n) 4 (given c)))
+boxed-and-few p n c e =
+    row-step (not (inEmBox c)) 3 (λ h k. fails h (inside-test em c (k c (place-names p c e))))
+    (λ h d m. subst (Inside em) (named-once p c d e m) (inside em c (not-false (inEmBox c) h))) (λ boxed.
+    row-step (leb 4096 n) 4 (λ h l. above l (leb-true 4096 n h)) (leb-false 4096 n) (λ few.
+    row-end c))
+
+pub append : (p : DrawnPoint) (l : List ℤ) (n : ℕ) → GoesBy (appendRow p l n) (appendOf p l n)
+unfolding takenOf
+append p l n =
+    row-through (takenOf p l n) (appendOf p l n) taken
+    (λ c e. (suc n, ap (λ (o : Outcome Point). andThen o (λ d. given (suc n))) e))
+    (λ k e. ap (λ (o : Outcome Point). andThen o (λ d. given (suc n))) e)
+  where
+    taken : GoesBy (appendRow p l n) (takenOf p l n)
+    taken =
+        row-step (ltb (length l) 8192) 8 (λ h. above (ltb-true (length l) 8192 h)) (ltb-false (length l) 8192) (λ room.
+        row-then (11 unless ((c : Point) × Names p c) ∷ []) _ _ (placeOf p) (placed p) (boxed-and-few p n))

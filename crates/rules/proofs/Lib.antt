@@ -2,4 +2,5 @@ pub mod RowLaws
 pub mod Recordables
 pub mod Sheets
 pub mod Lines
+pub mod Drawings
 pub mod Calls

@@ -1,4 +1,4 @@
--- The rules of document 01 as propositions, and the row of rules of each public call, with document 01's numbers in its order.
+-- The rules of documents 01 and 02 as propositions, and the row of rules of each public call, with the papers' numbers in their order.
 --
 --   GoodLine i         == a line that is blank, or a point in the em box
 --   lineRow k i        == the rules of a line behind lines with k points: 2, then 3, then 4
@@ -9,7 +9,8 @@
 --   Recordable d ps    == the disk d and the points ps are such as a valid record holds
 --   Bytes bs           == bs is a list of bytes
 --   IsRecord bs        == bs is the record of such a disk and points
---   loaderRow, sheetRow, engineRow, writerRow, readerRow, diskRow == the rows; radius and preview have the last
+--   Names p c          == the drawing program's point p is c: its whole numbers are c's, or its floats stand for them exactly
+--   loaderRow, sheetRow, engineRow, writerRow, readerRow, diskRow, appendRow == the rows; radius and preview have diskRow
 --
 -- `Inside em p`: x is from 0 to 1000 and y from −250 to 750 (geometry/specs/EmBox.antt, which has every limit of points and disks).
 use mathlib.Core.Path.{_≡_}
@@ -26,6 +27,9 @@ use Rattle.point_lists.specs.Sets.{In}
 use Rattle.point_lists.specs.Rising.{Rising}
 use Rattle.lines.specs.Line.{Line, blank, point, fault}
 use Rattle.description.specs.Description.{linesRead, pointsOn, named}
+use Rattle.whole_floats.specs.Whole.{StandsFor}
+use Rattle.drawn_points.specs.declared.DrawnPoint.{DrawnPoint}
+use Rattle.drawn_points.specs.declared.DrawnPoint.the-variants.{Whole, Drawn}
 use Rattle.sheet.specs.Sheet.{count, directoryEnd, pair}
 use Rattle.record_writer.specs.Layout.{recordLength}
 use Rattle.record_writer.specs.Bytes.{recordBytes}
@@ -103,6 +107,21 @@ engineRow list =
     ∷ 5 unless (1 ≤ length (points list))
     ∷ 4 unless (length (points list) ≤ 4096)
     ∷ 3 unless ((p : Point) → In p (points list) → Inside em p)
+    ∷ []
+
+-- ---- points from a drawing program (02, item 2)
+
+abbrev pub Names : DrawnPoint → Point → Type 0
+Names (Whole x y) c = (x ≡ c .x) × (y ≡ c .y)
+Names (Drawn x y) c = StandsFor x (c .x) × StandsFor y (c .y)
+
+-- "8 first, as for the loader; 11 for a NaN, an infinity or a float with a fraction in x or y; then 3; then 4 when 4,096 or more are there"
+abbrev pub appendRow : DrawnPoint → List ℤ → ℕ → List Rule
+appendRow p list n =
+    8 unless (8192 ≤ length list)
+    ∷ 11 unless ((c : Point) × Names p c)
+    ∷ 3 unless ((c : Point) → Names p c → Inside em c)
+    ∷ 4 unless (n < 4096)
     ∷ []
 
 -- ---- disks, points and records

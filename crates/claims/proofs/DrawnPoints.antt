@@ -1,0 +1,186 @@
+-- Document 02, item 2 holds (specs/DrawnPoints.antt).
+--
+--   answers-same : whole radius, preview and writer answer alike in two buffers that are both long enough, or both not
+--   taken-same   : two points of equal value are taken, or refused, alike
+--   drawn-points : DrawnPoints
+use mathlib.Core.Path.{_≡_, refl, sym, ap, ap₂, _∙_}
+use mathlib.Core.Logic.{_↔_}
+use mathlib.Core.Bool.{Bool, true, false, not}
+use mathlib.Core.List.{List, [], _∷_, _++_}
+use Prim.Native.Nat.{ℕ, suc, _+_, _*_, _/_, _%_, _≤_, _<_}
+use native.Mathlib.Nat.{lt-of-not-le, not-le-of-lt}
+use native.Mathlib.Numerals.{add-one}
+use native.Mathlib.Omega.{arith}
+use borrow.Author.Tests.{ltb-true, ltb-false, lt-ltb, le-ltb, eqb-false}
+use lib.Dec.{leb, ltb, eqb}
+use lib.IntN.{ℤ, pos}
+use lib.ListN.{length, take, drop}
+use lib.Ieee.{Float, nan, inf, fin, up, down}
+use Rattle.answers.specs.Outcome.{Outcome, given, refused, refuseIf, andThen}
+use Rattle.answers.proofs.OutcomeLaws.{not-given, refused-same, given-same}
+use Rattle.integers.specs.Order.{signed}
+use Rattle.geometry.specs.declared.Point.{Point}
+use Rattle.geometry.specs.declared.Disk.{Disk}
+use Rattle.geometry.specs.EmBox.{inEmBox}
+use Rattle.geometry.specs.Points.{firstPoints}
+use Rattle.point_lists.specs.Put.{putAt}
+use Rattle.point_lists.proofs.Put.{firstPoints-put}
+use Rattle.engine.specs.Engine.{Enclosure, encloseOf}
+use Rattle.whole_floats.specs.Whole.{StandsFor, wholeOf}
+use Rattle.whole_floats.proofs.WholeLaws.{whole-stands, stands-whole, given-whole, given-broken}
+use Rattle.drawn_points.specs.declared.DrawnPoint.{DrawnPoint}
+use Rattle.drawn_points.specs.Appending.{placeOf, takenOf, appendOf, listAfter, putBehind}
+use Rattle.drawn_points.proofs.Behind.{taken-place, put-behind, front-behind}
+use Rattle.validity.specs.Valid.{valid}
+use Rattle.radius.specs.Radius.{radiusOf}
+use Rattle.preview.specs.declared.Preview.{Preview}
+use Rattle.preview.specs.Preview.{previewOf}
+use Rattle.record_writer.specs.Layout.{recordLength}
+use Rattle.record_writer.specs.Writing.{writeOf, bufferAfter}
+use Rattle.rules.specs.Row.{AllKept}
+use Rattle.rules.specs.Rules.{Names, appendRow}
+use Rattle.rules.proofs.Drawings.{names-place, named-once}
+use Rattle.rules.proofs.Calls as calls
+use Rattle.claims.specs.Values.{bits}
+use Rattle.claims.specs.Demand3.{Answers, answersFor}
+use Rattle.claims.specs.DrawnPoints.{Broken, not-a-number, infinite, fraction, Led, led, DrawnPoints}
+use Rattle.claims.proofs.Records.{filled}
+use Rattle.claims.proofs.Whole.{both-given}
+
+-- ---- floats
+
+broken-is : (v : Float) (k : ℕ) → wholeOf v ≡ refused k → (k ≡ 11) × Broken v
+unfolding wholeOf
+broken-is nan k h = (sym (refused-same h), not-a-number)
+broken-is (inf s) k h = (sym (refused-same h), infinite)
+broken-is (fin s m e) k h = go (eqb (m * up e % down e) 0) refl h
+  where
+    go : (b : Bool) → eqb (m * up e % down e) 0 ≡ b → refuseIf (not b) 11 (given (signed s (m * up e / down e))) ≡ refused k → (k ≡ 11) × Broken (fin s m e)
+    go true t h = absurd (not-given (sym h))
+    go false t h = (sym (refused-same h), fraction (eqb-false (m * up e % down e) 0 t))
+
+is-broken : (v : Float) → Broken v → wholeOf v ≡ refused 11
+unfolding wholeOf
+is-broken nan not-a-number = refl
+is-broken (inf s) infinite = refl
+is-broken (fin s m e) (fraction h) = given-broken s m e h
+
+zeros : (s : Bool) → wholeOf (fin s 0 (pos 0)) ≡ given (pos 0)
+unfolding wholeOf
+zeros true = refl
+zeros false = refl
+
+-- ---- lists and buffers that are both long enough, or both not
+
+same-room : (k a b : ℕ) → (k ≤ a) ↔ (k ≤ b) → ltb a k ≡ ltb b k
+same-room k a b r = go (ltb a k) refl
+  where
+    short : a < k → b < k
+    short h = lt-of-not-le (λ (l : k ≤ b). not-le-of-lt h (r .1 l))
+
+    go : (t : Bool) → ltb a k ≡ t → t ≡ ltb b k
+    go true e = sym (lt-ltb b k (short (ltb-true a k e)))
+    go false e = sym (le-ltb b k (r .0 (ltb-false a k e)))
+
+-- what is made of a record's bytes, where the writer writes them
+module _ {A : Type 0} (d : Disk) (ps : List Point) (f : List ℕ → A) where
+  abbrev made : List ℕ → Outcome A
+  made b = andThen (writeOf d ps b) (λ done. given (f (take recordLength (bufferAfter d ps b))))
+
+  made-same : (b c : List ℕ) → writeOf d ps b ≡ writeOf d ps c → made b ≡ made c
+  made-same b c e = go (writeOf d ps b) (writeOf d ps c) refl refl e
+    where
+      go : (o q : Outcome (Unit {0})) → writeOf d ps b ≡ o → writeOf d ps c ≡ q → o ≡ q
+          → andThen o (λ done. given (f (take recordLength (bufferAfter d ps b)))) ≡ andThen q (λ done. given (f (take recordLength (bufferAfter d ps c))))
+      go (given u) (given v) h k e = ap (λ (bs : List ℕ). given (f bs)) (filled d ps b h ∙ sym (filled d ps c k))
+      go (given u) (refused m) h k e = absurd (not-given (sym e))
+      go (refused n) (given v) h k e = absurd (not-given e)
+      go (refused n) (refused m) h k e = ap refused (refused-same e)
+
+answers-same : (e : Enclosure) (b c : List ℕ) → (recordLength ≤ length b) ↔ (recordLength ≤ length c) → answersFor e b ≡ answersFor e c
+answers-same e b c r =
+    let d = e .disk in
+    let ps = e .support in
+    let room = ap (λ (t : Bool). refuseIf t 8 (refuseIf (not (valid d ps)) 7 (given tt))) (same-room recordLength (length b) (length c) r) in
+    ap (λ (k : ℕ → Preview → Outcome Answers). andThen (radiusOf d ps) (λ r. andThen (previewOf d ps) (λ p. k r p)))
+    (λ i r p. made-same d ps (λ bs. record { disk-given = d; support = ps; radius = r; shown = bits p; bytes = bs }) b c room i)
+
+-- ---- two points of equal value
+
+-- n below 4,096 leaves room for one more point
+room : {n k : ℕ} → (8192 ≤ k) × (n < 4096) → 2 * n + 2 ≤ k
+room h = let l = h .0 in let m = h .1 in omega arith
+
+module _ (p q : DrawnPoint) (c : Point) (is : Names p c) (also : Names q c) (n : ℕ) (l m : List ℤ) (long : (8192 ≤ length l) ↔ (8192 ≤ length m)) where
+  taken-same : takenOf p l n ≡ takenOf q m n
+  unfolding takenOf
+  taken-same =
+      ap₂ (λ (t : Bool) (o : Outcome Point). refuseIf t 8 (andThen o (λ c. refuseIf (not (inEmBox c)) 3 (refuseIf (leb 4096 n) 4 (given c)))))
+      (same-room 8192 (length l) (length m) long) (names-place p c is ∙ sym (names-place q c also))
+
+  -- the n + 1 points that the engine is given
+  handed-same : take (2 * n) l ≡ take (2 * n) m → (d : Point) → takenOf p l n ≡ given d → takenOf q m n ≡ given d
+      → take (2 * suc n) (listAfter p l n) ≡ take (2 * suc n) (listAfter q m n)
+  handed-same e d h k =
+      front p l h ∙ ap (λ (f : List ℤ). f ++ (d .x ∷ d .y ∷ [])) e ∙ sym (front q m k)
+    where
+      front : (r : DrawnPoint) (s : List ℤ) → takenOf r s n ≡ given d → take (2 * suc n) (listAfter r s n) ≡ take (2 * n) s ++ (d .x ∷ d .y ∷ [])
+      front r s t =
+          ap (λ (o : Outcome Point). take (2 * suc n) (putBehind o s n)) t ∙ front-behind s n d (room (taken-place r s n d t .1))
+
+  led-same : take (2 * n) l ≡ take (2 * n) m → (a b : List ℕ) → (recordLength ≤ length a) ↔ (recordLength ≤ length b) → led p l n a ≡ led q m n b
+  unfolding led
+  led-same e a b r = go (takenOf p l n) (takenOf q m n) refl refl taken-same
+    where
+      behind : List ℤ → List ℕ → Outcome Led
+      behind list buf = andThen (encloseOf list) (λ e. andThen (answersFor e buf) (λ a. given (record { answers = a; tests = e .tests })))
+
+      go : (o s : Outcome Point) → takenOf p l n ≡ o → takenOf q m n ≡ s → o ≡ s
+          → andThen (andThen o (λ d. given (suc n))) (λ k. behind (take (2 * k) (listAfter p l n)) a)
+          ≡ andThen (andThen s (λ d. given (suc n))) (λ k. behind (take (2 * k) (listAfter q m n)) b)
+      go (given d) (given f) h k g =
+          let list = handed-same e d h (k ∙ sym g) in
+          ap (λ (s : List ℤ). behind s a) list
+          ∙ (λ i. andThen (encloseOf (take (2 * suc n) (listAfter q m n))) (λ w.
+          andThen (answers-same w a b r i) (λ x. given (record { answers = x; tests = w .tests }))))
+      go (given d) (refused k) h f g = absurd (not-given (sym g))
+      go (refused j) (given d) h f g = absurd (not-given g)
+      go (refused j) (refused k) h f g = ap refused (refused-same g)
+
+-- ---- the answer and the list
+
+module _ (p : DrawnPoint) (l : List ℤ) (n : ℕ) where
+  number-is : {k : ℕ} → appendOf p l n ≡ given k → (d : Point) × ((takenOf p l n ≡ given d) × (k ≡ suc n))
+  number-is {k} h =
+      let steps = both-given (takenOf p l n) _ k h in
+      (steps .0, (steps .1 .0, sym (given-same (steps .1 .1))))
+
+  numbered : (k : ℕ) → AllKept (appendRow p l n) × (k ≡ suc n) → appendOf p l n ≡ given k
+  numbered k w = let g = calls.append p l n .taken .1 (w .0) in g .1 ∙ ap given (number-is (g .1) .1 .1 ∙ sym (w .1))
+
+  put : AllKept (appendRow p l n) → (c : Point) → Names p c
+      → (listAfter p l n ≡ take (2 * n) l ++ c .x ∷ c .y ∷ drop (2 * suc n) l) × (firstPoints (suc n) (listAfter p l n) ≡ firstPoints n l ++ (c ∷ []))
+  put kept c is =
+      let taken = number-is (calls.append p l n .taken .1 kept .1) in
+      let d = taken .0 in
+      let place = taken-place p l n d (taken .1 .0) in
+      let space = room (place .1) in
+      let after : listAfter p l n ≡ take (2 * n) l ++ c .x ∷ c .y ∷ drop (2 * suc n) l =
+      ap (λ (o : Outcome Point). putBehind o l n) (taken .1 .0 ∙ ap given (named-once p d c (place .0) is)) in (
+        after,
+        ap (firstPoints (suc n)) (after ∙ sym (put-behind l n c space))
+            ∙ ap (λ (k : ℕ). firstPoints k (putAt l n c)) (sym (add-one n))
+            ∙ firstPoints-put l n c space,
+      )
+
+-- ---- all of it
+
+pub drawn-points : DrawnPoints
+drawn-points = record {
+  whole = λ v z. (whole-stands v z, stands-whole v z);
+  broken = λ v k. (broken-is v k, λ h. is-broken v (h .1) ∙ ap refused (sym (h .0)));
+  zeros = zeros;
+  number = λ p l n k. ((λ h. (calls.append p l n .taken .0 (k, h), number-is p l n h .1 .1)), numbered p l n k);
+  list = put;
+  same = λ p q c is also n l m e long a b r. led-same p q c is also n l m long e a b r;
+}
