@@ -74,6 +74,27 @@ pub fn signed_word_at(bytes: &[u8], at: usize) -> i64 {
     big_endian::get_signed_at(bytes, at, 8)
 }
 
+// The same, where an i32 holds it; else 0.
+pub fn int_at(bytes: &[u8], at: usize) -> i32 {
+    let v = signed_word_at(bytes, at);
+    if v < -2147483648 {
+        return 0;
+    }
+    if 2147483647 < v {
+        return 0;
+    }
+    v as i32
+}
+
+// The float whose bits are the 8 bytes at the place; those of any NaN stand for a NaN.
+pub fn float_at(bytes: &[u8], at: usize) -> f64 {
+    let bits = word_at(bytes, at);
+    if 0x7ff0_0000_0000_0000 < bits % 0x8000_0000_0000_0000 {
+        return 0.0 / 0.0;
+    }
+    f64::from_bits(bits)
+}
+
 // The signed number of 2 bytes at the place; 0 where they are not both there.
 pub fn number_at(bytes: &[u8], at: usize) -> i16 {
     if bytes.len() < 2 {
@@ -85,10 +106,10 @@ pub fn number_at(bytes: &[u8], at: usize) -> i16 {
     twos_complement::of_bits(big_endian::get_at(bytes, at, 2), 2) as i16
 }
 
-// Fills the list with signed numbers of 2 bytes each.
+// Fills the front of the list with signed numbers of 2 bytes each, as far as there are bytes.
 pub fn fill_list(bytes: &[u8], list: &mut [i16]) {
     let mut i: usize = 0;
-    while i < list.len() {
+    while i < list.len() && 2 * i + 1 < bytes.len() {
         let v = number_at(bytes, 2 * i);
         list[i] = v;
         i += 1;

@@ -1,4 +1,5 @@
 // Runs the stored cases (tests/README.md): each names a call and gives it its bytes; what the calls answer and leave is printed.
+use drawn_points::DrawnPoint;
 use geometry::Disk;
 use geometry::Point;
 use geometry::SupportSet;
@@ -104,6 +105,51 @@ fn run_loader(bytes: &[u8]) {
     }
 }
 
+// Of the kind 1 whole numbers, of any other floats; x and y have eight bytes each.
+fn get_drawn(bytes: &[u8], kind: u8) -> DrawnPoint {
+    if kind == 1 {
+        return DrawnPoint::Whole(cases::int_at(bytes, 1), cases::int_at(bytes, 9));
+    }
+    DrawnPoint::Drawn(cases::float_at(bytes, 1), cases::float_at(bytes, 9))
+}
+
+// The engine on the first k points of a list.
+fn solve_front(list: &mut [i16], k: usize) {
+    if k <= 4096 {
+        if 8192 <= list.len() {
+            solve(&mut list[..2 * k]);
+        }
+    }
+}
+
+fn append(p: DrawnPoint, list: &mut [i16], n: usize) {
+    match drawn_points::append_point(p, list, n) {
+        drawn_points::Appended::Points(k) => {
+            printing::print_count(b"points", k as u64);
+            printing::print_count(b"list", checksum::of_list(list));
+            solve_front(list, k);
+        }
+        drawn_points::Appended::Refused(r) => {
+            printing::print_refusal(r);
+            printing::print_count(b"list", checksum::of_list(list));
+        }
+    }
+}
+
+// A: a point, how many points are there in eight bytes, the length of the lent list in two; then the numbers at its front.
+fn run_append(bytes: &[u8]) {
+    if 27 <= bytes.len() {
+        let p = get_drawn(bytes, bytes[0]);
+        let n = cases::word_at(bytes, 17) as usize;
+        let room = joined(bytes[25], bytes[26]);
+        let mut list = [12321i16; 8200];
+        cases::fill_list(&bytes[27..], &mut list);
+        if room <= 8200 {
+            append(p, &mut list[..room], n);
+        }
+    }
+}
+
 fn print_part(sheet: &[u8], start: usize, len: usize) {
     let bytes = sheet::part(sheet, start, len);
     printing::print_pair(b"bytes", bytes.len() as u64, checksum::of_bytes(bytes));
@@ -204,6 +250,7 @@ fn run_case(call: u8, bytes: &[u8]) {
         b'D' => run_listing(bytes),
         b'E' => run_engine(bytes),
         b'L' => run_loader(bytes),
+        b'A' => run_append(bytes),
         b'S' => run_sheet(bytes),
         b'P' => run_part(bytes),
         b'R' => run_reader(bytes),

@@ -2,6 +2,7 @@
 // definition of the call that it exports, and is the call of a crate of its own.
 ghost use mathlib.Core.Path.{_≡_};
 ghost use Rattle.description.specs.Description as description;
+ghost use Rattle.drawn_points.specs.Appending as drawn;
 ghost use Rattle.sheet.specs.Sheet.{glyphOf};
 ghost use Rattle.engine.specs.Engine as engine;
 ghost use Rattle.radius.specs.Radius.{radiusOf};
@@ -12,11 +13,13 @@ ghost use Rattle.letter.specs.Letter as letter;
 ghost use Rattle.c_types.specs.Support.{pointsOf};
 ghost use Rattle.c_types.specs.Code.{codeOf};
 ghost use Rattle.c_load.specs.Answer.{loadAnswer};
+ghost use Rattle.c_append.specs.Kind.{pointOf};
 ghost use Rattle.c_glyph.specs.Answer.{glyphAnswer};
 ghost use Rattle.c_disk.specs.Answer.{diskAnswer};
 ghost use Rattle.c_radius.specs.Answer.{radiusAnswer};
 ghost use Rattle.c_preview.specs.Answer.{previewAnswer};
 ghost use Rattle.c_read.specs.Answer.{recordAnswer};
+use c_append::KindAndValues;
 use c_disk::DiskAnswer;
 use c_glyph::GlyphAnswer;
 use c_load::LoadAnswer;
@@ -32,6 +35,14 @@ pub extern "C" fn volkhidar_load(text: &[u8], list: &mut [i16]) -> LoadAnswer
     ensures { λ _. ⌜ now (list .exit) ≡ description.listAfter (now (text .entry)) (now (list .entry)) ⌝ }
 {
     c_load::load(text, list)
+}
+
+#[no_mangle]
+pub extern "C" fn volkhidar_append_point(p: KindAndValues, list: &mut [i16], n: usize) -> LoadAnswer
+    ensures { λ r. ⌜ r ≡ loadAnswer (drawn.appendOf (pointOf p) (now (list .entry)) n) ⌝ }
+    ensures { λ _. ⌜ now (list .exit) ≡ drawn.listAfter (pointOf p) (now (list .entry)) n ⌝ }
+{
+    c_append::append_point(p, list, n)
 }
 
 #[no_mangle]
