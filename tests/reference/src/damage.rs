@@ -1,8 +1,9 @@
 //! Drawn descriptions, sheets and records, many of them damaged, each by its seed.
 
+use crate::drawing::DrawnPoint;
 use crate::engine;
 use crate::geometry::{gcd, Disk, Point};
-use crate::inputs::{LoaderCase, PartCase, SheetCase, WriterCase};
+use crate::inputs::{AppendCase, LoaderCase, PartCase, SheetCase, WriterCase};
 use crate::limits::{FOOT, LEFT, LIST_LENGTH, MOST_E, MOST_SQUARE, RIGHT, TOP};
 use crate::lists::{self, Kind};
 use crate::random::Random;
@@ -122,6 +123,51 @@ pub fn point_list(random: &mut Random) -> Vec<i16> {
         _ => (),
     }
     list
+}
+
+// ---- points from a drawing program
+
+/// A point and a list with a few points at its front; in about half of the cases a coordinate, the number or the list's length is wrong.
+pub fn append(random: &mut Random) -> AppendCase {
+    let points = random.below(9);
+    let mut front = engine::flat(&lists::draw(random.pick(&lists::KINDS), points.max(1), random));
+    front.truncate(2 * points);
+    let n = if random.chance(90) { points as u64 } else { random.pick(&[0, 1, 20, 4_095, 4_096, 4_097, 1 << 40, u64::MAX]) };
+    let room = if random.chance(95) { LIST_LENGTH + random.pick(&[0, 1, 8]) } else { random.pick(&[20, LIST_LENGTH - 1]) };
+    let point = if random.chance(35) {
+        DrawnPoint::Whole(whole_coordinate(LEFT, RIGHT, random), whole_coordinate(FOOT, TOP, random))
+    } else {
+        DrawnPoint::Drawn(float_coordinate(LEFT, RIGHT, random), float_coordinate(FOOT, TOP, random))
+    };
+    AppendCase { point, n, room, front }
+}
+
+/// Within the em box, or in one case of five at its edges or far from it.
+fn whole_coordinate(least: i16, most: i16, random: &mut Random) -> i32 {
+    let (least, most) = (i32::from(least), i32::from(most));
+    if random.chance(80) {
+        return random.between(least.into(), most.into()) as i32;
+    }
+    let any = random.word() as i32;
+    random.pick(&[least, most, least - 1, most + 1, i32::MIN, i32::MAX, 65_536 + least, any])
+}
+
+/// Such a whole number, or in one case of three a float with a fraction, of great or small size, or any bits at all.
+fn float_coordinate(least: i16, most: i16, random: &mut Random) -> f64 {
+    let whole = f64::from(whole_coordinate(least, most, random));
+    if random.chance(67) {
+        return if whole == 0.0 && random.chance(50) { -whole } else { whole };
+    }
+    let bits = whole.to_bits();
+    let neighbours = [bits.wrapping_add(1), bits.wrapping_sub(1), bits ^ 1 << random.below(64)].map(f64::from_bits);
+    let ends = [0.5, 5e-324, 1e300, f64::MAX, f64::INFINITY, f64::NAN, 9_007_199_254_740_992.0, 9_223_372_036_854_775_808.0];
+    let sized = f64::from_bits((random.below(2_048) as u64) << 52 | random.word() >> 12);
+    match random.below(4) {
+        0 => random.pick(&neighbours),
+        1 => random.pick(&ends) * random.pick(&[1.0, -1.0]),
+        2 => sized,
+        _ => f64::from_bits(random.word()),
+    }
 }
 
 // ---- sheets

@@ -4,14 +4,17 @@
 //! worked out by no program.
 
 mod descriptions;
+mod drawings;
 mod records;
 mod sheets;
 
 pub use descriptions::descriptions;
+pub use drawings::drawings;
 pub use records::{readings, writings};
 pub use sheets::{parts, sheets};
 
 /// The words of document 01 or 02 (where they leave a point open, of docs/DECISIONS.md), what a call is given, and what it must give.
+#[derive(Clone)]
 pub struct Edge<Input, Output> {
     pub says: &'static str,
     pub given: Input,
@@ -25,7 +28,7 @@ pub type Answer<Value> = Result<Value, u8>;
 mod tests {
     use super::*;
     use crate::refusal::Refusal;
-    use crate::{description, engine::flat, figures, record, sheet};
+    use crate::{description, drawing, engine::flat, figures, record, sheet};
 
     #[test]
     fn the_loader_keeps_to_them() {
@@ -36,6 +39,23 @@ mod tests {
             assert_eq!(answer, gives.as_ref().map(Vec::len).map_err(|number| *number), "{says}");
             let written = flat(&gives.unwrap_or_default());
             assert_eq!(list, [&written, &before[written.len()..]].concat(), "{says}");
+        }
+    }
+
+    #[test]
+    fn the_call_for_drawn_points_keeps_to_them() {
+        for Edge { says, given, gives } in drawings() {
+            let (before, mut list) = (given.list(), given.list());
+            let answer = drawing::append(given.point, &mut list, given.n).map_err(Refusal::number);
+            assert_eq!(answer, gives.map(|_| given.n as usize + 1), "{says}: {:?}", given.point);
+            let expected = match gives {
+                Ok((x, y)) => {
+                    let n = given.n as usize;
+                    [&before[..2 * n], &[x, y], &before[2 * n + 2..]].concat()
+                }
+                Err(_) => before,
+            };
+            assert_eq!(list, expected, "{says}: {:?}", given.point);
         }
     }
 

@@ -1,5 +1,6 @@
 //! What a call is given, where it is given more than one thing.
 
+use crate::drawing::DrawnPoint;
 use crate::geometry::Disk;
 use crate::support::SupportSet;
 
@@ -7,6 +8,24 @@ use crate::support::SupportSet;
 pub struct LoaderCase {
     pub room: usize,
     pub text: Vec<u8>,
+}
+
+/// A drawing program's point, how many points are there, and the lent list: its length and the numbers at its front.
+#[derive(Clone)]
+pub struct AppendCase {
+    pub point: DrawnPoint,
+    pub n: u64,
+    pub room: usize,
+    pub front: Vec<i16>,
+}
+
+impl AppendCase {
+    /// The lent list: behind the numbers at its front 12,321, which no point of the em box has.
+    pub fn list(&self) -> Vec<i16> {
+        let mut list = self.front.clone();
+        list.resize(self.room, 12_321);
+        list
+    }
 }
 
 /// A glyph number and a sheet.

@@ -13,6 +13,7 @@
 //! | [`procedure`] | Welzl's B_MTFDISK, transcribed: count of tests and order left |
 //! | [`engine`] | the disk engine: checks, then the four answers |
 //! | [`description`] | the loader |
+//! | [`drawing`] | points from a drawing program (document 02, item 2) |
 //! | [`sheet`] | the sheet opener |
 //! | [`record`] | validity, writer and reader |
 //! | [`figures`] | the cutting radius and the preview |
@@ -28,6 +29,7 @@
 pub mod damage;
 pub mod definition;
 pub mod description;
+pub mod drawing;
 pub mod edges;
 pub mod engine;
 pub mod figures;

@@ -1,6 +1,6 @@
-//! Why a call turns its input down (document 01, "What a refused call hands back").
+//! Why a call turns its input down (document 01, "What a refused call hands back"; from 11 on, document 02).
 
-/// A refusal; its number is the one that document 01 gives.
+/// A refusal; its number is the one that the papers give.
 #[derive(Clone, Copy, PartialEq, Eq, Debug)]
 pub enum Refusal {
     TooLong = 1,
@@ -13,6 +13,7 @@ pub enum Refusal {
     NoRoom = 8,
     OddLength = 9,
     NoGlyph = 10,
+    NotWhole = 11,
 }
 
 impl Refusal {

@@ -8,7 +8,7 @@ use crate::letters;
 use crate::limits::{LIST_LENGTH, MOST_POINTS};
 use crate::lists::{self, Kind, KINDS};
 use crate::random::Random;
-use crate::vectors::{engine, from_description, loader, open_sheet, part, reader, writer, Vector};
+use crate::vectors::{append, engine, from_description, loader, open_sheet, part, reader, writer, Vector};
 use crate::worst;
 
 /// The cases that the repository keeps.
@@ -19,6 +19,7 @@ pub fn stored() -> Vec<Vector> {
     vectors.extend([vec![1; 8_194], vec![1; 8_193], vec![]].into_iter().map(engine));
     vectors.extend(edges());
     vectors.extend(damaged(&mut Random::new(1), 500));
+    vectors.extend(appended(&mut Random::new(2), 1_000));
     vectors
 }
 
@@ -26,6 +27,7 @@ pub fn stored() -> Vec<Vector> {
 pub fn drawn(seed: u64, count: usize) -> Vec<Vector> {
     let mut random = Random::new(seed);
     let mut vectors = damaged(&mut random, count);
+    vectors.extend(appended(&mut random, count));
     for _ in 0..count {
         let longest = random.pick(&[4, 12, 40, 300]);
         let n = 1 + random.below(longest);
@@ -49,6 +51,11 @@ fn damaged(random: &mut Random, count: usize) -> Vec<Vector> {
     vectors
 }
 
+/// `count` points from a drawing program, many of them faulty.
+fn appended(random: &mut Random, count: usize) -> Vec<Vector> {
+    (0..count).map(|_| append(&damage::append(random))).collect()
+}
+
 fn letter_texts() -> Vec<Vec<u8>> {
     letters::LETTERS.iter().map(|letter| describe(&letters::points(letter.list))).collect()
 }
@@ -63,6 +70,7 @@ fn edge_texts() -> impl Iterator<Item = Vec<u8>> {
 fn edges() -> Vec<Vector> {
     let mut vectors: Vec<Vector> = Vec::new();
     vectors.extend(edges::descriptions().iter().map(|edge| loader(&edge.given)));
+    vectors.extend(edges::drawings().iter().map(|edge| append(&edge.given)));
     vectors.extend(edges::sheets().iter().map(|edge| open_sheet(&edge.given)));
     vectors.extend(edges::parts().iter().map(|edge| part(&edge.given)));
     vectors.extend(edges::readings().into_iter().map(|edge| reader(edge.given)));
@@ -126,7 +134,8 @@ mod tests {
         let lists = vectors.iter().filter(|v| v.call == Call::Listing && v.printed.starts_with("disk")).count();
         assert!(lists >= 2_000);
         use Refusal::*;
-        for refusal in [TooLong, BadLine, OutsideBox, TooMany, NoPoint, BadSheet, BadRecord, NoRoom, OddLength, NoGlyph] {
+        for refusal in [TooLong, BadLine, OutsideBox, TooMany, NoPoint, BadSheet, BadRecord, NoRoom, OddLength, NoGlyph, NotWhole]
+        {
             let line = listing::refused(refusal);
             assert!(vectors.iter().any(|v| v.printed.contains(&line)), "{refusal:?}");
         }

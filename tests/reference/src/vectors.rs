@@ -3,10 +3,11 @@
 //! `tests/README.md` has the layout.
 
 use crate::description;
+use crate::drawing::{self, DrawnPoint};
 use crate::engine::{self, flat};
 use crate::figures;
 use crate::geometry::{Disk, Point};
-use crate::inputs::{LoaderCase, PartCase, SheetCase, WriterCase};
+use crate::inputs::{AppendCase, LoaderCase, PartCase, SheetCase, WriterCase};
 use crate::listing;
 use crate::record;
 use crate::sheet;
@@ -27,6 +28,8 @@ pub enum Call {
     Engine = b'E' as isize,
     /// The loader alone.
     Loader = b'L' as isize,
+    /// A drawing program's point put behind others, then the engine on them.
+    Append = b'A' as isize,
     /// The sheet opener, then the part it found.
     Sheet = b'S' as isize,
     /// A part of a sheet, by its place.
@@ -105,6 +108,30 @@ pub fn loader(case: &LoaderCase) -> Vector {
     };
     let printed = printed + &format!("list {}\n", list_checksum(&list));
     Vector { call: Call::Loader, bytes: [&room[..], &case.text].concat(), printed }
+}
+
+/// The kind, 1 for whole numbers and 2 for floats; x and y in eight bytes each, floats by their bits; how many points are there in eight
+/// bytes and the lent list's length in two, high byte first; then the numbers at the front of the list. Its checksum after the call is
+/// printed, and where a point was put into it, what the engine makes of the points there now.
+pub fn append(case: &AppendCase) -> Vector {
+    let (kind, x, y) = match case.point {
+        DrawnPoint::Whole(x, y) => (1, i64::from(x) as u64, i64::from(y) as u64),
+        DrawnPoint::Drawn(x, y) => (2, x.to_bits(), y.to_bits()),
+    };
+    let room = u16::try_from(case.room).expect("a length has 16 bits");
+    let mut bytes = vec![kind];
+    bytes.extend([x, y, case.n].iter().flat_map(|number| number.to_be_bytes()));
+    bytes.extend(room.to_be_bytes());
+    bytes.extend(case.front.iter().flat_map(|number| number.to_be_bytes()));
+    let mut list = case.list();
+    let printed = match drawing::append(case.point, &mut list, case.n) {
+        Ok(count) => {
+            let put = format!("points {count}\nlist {}\n", list_checksum(&list));
+            put + &engine(list[..2 * count].to_vec()).printed
+        }
+        Err(refusal) => listing::refused(refusal) + &format!("list {}\n", list_checksum(&list)),
+    };
+    Vector { call: Call::Append, bytes, printed }
 }
 
 /// k in two bytes, high byte first, then the sheet.
