@@ -28,6 +28,7 @@
  *                  8   a list under 8,192 numbers; a buffer under 44 bytes
  *                  9   a point list of odd length
  *                 10   glyph number not below the count
+ *                 11   a NaN, an infinity or a float with a fraction in a point's x or y
  *
  * docs/FORMATS.md describes descriptions, sheets and records byte by byte.
  */
@@ -44,7 +45,7 @@ extern "C" {
 /* Lengths that the checks ask for. */
 #define VOLKHIDAR_MOST_BYTES 65535   /* of a description or a sheet */
 #define VOLKHIDAR_MOST_POINTS 4096   /* of a point list */
-#define VOLKHIDAR_LIST_LENGTH 8192   /* least length of the list that volkhidar_load is lent */
+#define VOLKHIDAR_LIST_LENGTH 8192   /* least length of the list that volkhidar_load and volkhidar_append_point are lent */
 #define VOLKHIDAR_RECORD_LENGTH 44   /* of a record, in bytes */
 
 /* A point of the em box: x from 0 to 1000, y from -250 to 750. */
@@ -71,10 +72,25 @@ typedef struct {
     volkhidar_point points[3];
 } volkhidar_support;
 
+/*
+ * A point as a drawing program has it: two whole numbers (kind VOLKHIDAR_WHOLE) or two floats (kind VOLKHIDAR_DRAWN). The other two
+ * values are not looked at. Any other kind stands for no number and is refused with 11.
+ */
+#define VOLKHIDAR_WHOLE 1
+#define VOLKHIDAR_DRAWN 2
+
+typedef struct {
+    uint64_t kind;
+    int32_t whole_x, whole_y;
+    double drawn_x, drawn_y;
+} volkhidar_drawn_point;
+
 typedef struct {
     uint64_t refusal;
     uint64_t count;
 } volkhidar_load_answer;
+
+typedef volkhidar_load_answer volkhidar_append_answer;
 
 typedef struct {
     uint64_t refusal;
@@ -111,6 +127,14 @@ typedef struct {
  * Refusals, in this order: 8 for a list under 8,192 numbers; 1; the first faulty line, by 2, then 3, then 4; 5.
  */
 volkhidar_load_answer volkhidar_load(const uint8_t *text, size_t text_length, int16_t *list, size_t list_length);
+
+/*
+ * Puts a point behind the first n points of `list`, x and y by turns: the numbers 2n and 2n + 1 of the list are written and all others
+ * stay. The points that are there are not looked at. `count` is how many there are now, n + 1. A float is taken only where it stands
+ * for a whole number exactly, and then as that number; minus zero is 0. 1e300 is a whole number, outside the em box.
+ * Refusals, in this order: 8 for a list under 8,192 numbers; 11; 3; 4 where n is 4,096 or more.
+ */
+volkhidar_append_answer volkhidar_append_point(volkhidar_drawn_point point, int16_t *list, size_t list_length, size_t n);
 
 /*
  * Finds part k of a sheet, from 0: `length` bytes from byte `start` of the sheet on.

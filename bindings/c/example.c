@@ -1,7 +1,9 @@
 /*
  * The way of a letter through the library: a description is read, its smallest disk worked out, and a record written and read back.
+ * Then the same letter from a drawing program's own values.
  *
- *   bindings/c/run      builds and runs it; it reads a description from standard input, or letter F of the papers without one
+ *   bindings/c/run      builds and runs it on letter F of the papers
+ *   bindings/c/run -    reads a description from standard input
  */
 #include <inttypes.h>
 #include <stdio.h>
@@ -52,11 +54,32 @@ static int work_out(const uint8_t *text, size_t length) {
     return 0;
 }
 
+/* A point behind `count` others: the new count, or 0 where it is refused. */
+static size_t append(volkhidar_drawn_point point, int16_t *list, size_t count) {
+    volkhidar_append_answer appended = volkhidar_append_point(point, list, VOLKHIDAR_LIST_LENGTH, count);
+    if (appended.refusal) refused(appended.refusal);
+    return appended.count;
+}
+
+static int work_out_drawing(void) {
+    int16_t list[VOLKHIDAR_LIST_LENGTH];
+    volkhidar_drawn_point a = {.kind = VOLKHIDAR_WHOLE, .whole_x = 0, .whole_y = 0};
+    volkhidar_drawn_point b = {.kind = VOLKHIDAR_DRAWN, .drawn_x = 4.0, .drawn_y = -0.0};
+    volkhidar_drawn_point c = {.kind = VOLKHIDAR_DRAWN, .drawn_x = 2.0, .drawn_y = 3.0};
+    volkhidar_drawn_point fraction = {.kind = VOLKHIDAR_DRAWN, .drawn_x = 2.5, .drawn_y = 3.0};
+    size_t count = append(c, list, append(b, list, append(a, list, 0)));
+    append(fraction, list, count);
+    volkhidar_disk_answer answer = volkhidar_smallest_disk(list, 2 * count);
+    if (answer.refusal) return refused(answer.refusal);
+    print_answer(&answer);
+    return 0;
+}
+
 int main(int argc, char **argv) {
     static uint8_t text[VOLKHIDAR_MOST_BYTES + 1];
     (void)argv;
     if (argc > 1) {
         return work_out(text, fread(text, 1, sizeof text, stdin));
     }
-    return work_out((const uint8_t *)letter_f, sizeof letter_f - 1);
+    return work_out((const uint8_t *)letter_f, sizeof letter_f - 1) || work_out_drawing();
 }

@@ -30,7 +30,7 @@ mod shapes;
 
 pub use raw::{Disk, Point};
 pub use refusal::Refusal;
-pub use shapes::{Enclosed, Preview, SupportSet};
+pub use shapes::{DrawnPoint, Enclosed, Preview, SupportSet};
 
 use refusal::checked;
 use std::ops::Range;
@@ -41,7 +41,7 @@ pub const MOST_BYTES: usize = 65_535;
 /// A point list has at most this many points.
 pub const MOST_POINTS: usize = 4_096;
 
-/// The least length of the list that [`load`] is lent.
+/// The least length of the list that [`load`] and [`append_point`] are lent.
 pub const LIST_LENGTH: usize = 8_192;
 
 /// The bytes of a record.
@@ -66,6 +66,34 @@ pub const RECORD_LENGTH: usize = 44;
 /// ```
 pub fn load(text: &[u8], list: &mut [i16]) -> Result<usize, Refusal> {
     let answer = unsafe { raw::volkhidar_load(text.as_ptr(), text.len(), list.as_mut_ptr(), list.len()) };
+    checked(answer.refusal)?;
+    Ok(answer.count as usize)
+}
+
+/// Puts a point behind the first n points of the list, x and y by turns, and answers how many there are now; all other numbers of the
+/// list stay, and the points that are there are not looked at. A float is taken only where it stands for a whole number exactly, and
+/// then as that number; minus zero is 0. 1e300 is a whole number, outside the em box.
+///
+/// Refuses, in this order: [`Refusal::NoRoom`] for a list under [`LIST_LENGTH`] numbers, [`Refusal::NotWhole`],
+/// [`Refusal::OutsideBox`], [`Refusal::TooMany`] where n is [`MOST_POINTS`] or more.
+///
+/// ```
+/// use volkhidar::{append_point, smallest_disk, Disk, DrawnPoint, Refusal, LIST_LENGTH};
+///
+/// let mut list = [0; LIST_LENGTH];
+/// let mut count = 0;
+/// for point in [DrawnPoint::Whole(0, 0), DrawnPoint::Drawn(4.0, -0.0), DrawnPoint::Drawn(2.0, 3.0)] {
+///     count = append_point(point, &mut list, count)?;
+/// }
+/// assert_eq!(list[..6], [0, 0, 4, 0, 2, 3]);
+/// assert_eq!(smallest_disk(&mut list[..2 * count])?.disk, Disk { x: 12, y: 5, e: 6, s: 169 });
+///
+/// assert_eq!(append_point(DrawnPoint::Drawn(0.5, 0.0), &mut list, count), Err(Refusal::NotWhole));
+/// assert_eq!(append_point(DrawnPoint::Drawn(1e300, 0.0), &mut list, count), Err(Refusal::OutsideBox));
+/// # Ok::<(), Refusal>(())
+/// ```
+pub fn append_point(point: DrawnPoint, list: &mut [i16], n: usize) -> Result<usize, Refusal> {
+    let answer = unsafe { raw::volkhidar_append_point(point.into(), list.as_mut_ptr(), list.len(), n) };
     checked(answer.refusal)?;
     Ok(answer.count as usize)
 }

@@ -26,6 +26,15 @@ pub struct Support {
 }
 
 #[repr(C)]
+pub struct DrawnPoint {
+    pub kind: u64,
+    pub whole_x: i32,
+    pub whole_y: i32,
+    pub drawn_x: f64,
+    pub drawn_y: f64,
+}
+
+#[repr(C)]
 pub struct LoadAnswer {
     pub refusal: u64,
     pub count: u64,
@@ -69,6 +78,7 @@ pub struct RecordAnswer {
 
 extern "C" {
     pub fn volkhidar_load(text: *const u8, text_length: usize, list: *mut i16, list_length: usize) -> LoadAnswer;
+    pub fn volkhidar_append_point(point: DrawnPoint, list: *mut i16, list_length: usize, n: usize) -> LoadAnswer;
     pub fn volkhidar_glyph(sheet: *const u8, sheet_length: usize, k: usize) -> GlyphAnswer;
     pub fn volkhidar_smallest_disk(list: *mut i16, list_length: usize) -> DiskAnswer;
     pub fn volkhidar_whole_radius(disk: Disk, support: Support) -> RadiusAnswer;
@@ -100,6 +110,24 @@ mod tests {
             assert_eq!(unsafe { volkhidar_preview(disk, no_set(size)) }.refusal, 7);
         }
         assert_eq!(unsafe { volkhidar_whole_radius(disk, no_set(1)) }.refusal, 0);
+    }
+
+    #[test]
+    fn kinds_that_no_drawn_point_has() {
+        let mut list = [-7; 8_192];
+        let mut append = |kind, drawn_x, length, n| {
+            let point = DrawnPoint { kind, whole_x: 5, whole_y: 6, drawn_x, drawn_y: 8.0 };
+            let answer = unsafe { volkhidar_append_point(point, list.as_mut_ptr(), length, n) };
+            (answer.refusal, answer.count)
+        };
+        for kind in [0, 3, 256, 1 << 32, u64::MAX] {
+            assert_eq!(append(kind, 7.0, 8_192, 0), (11, 0));
+            assert_eq!(append(kind, 7.0, 8_192, usize::MAX), (11, 0));
+            assert_eq!(append(kind, 7.0, 8_191, 0), (8, 0));
+        }
+        assert_eq!(append(1, f64::NAN, 8_192, 0), (0, 1));
+        assert_eq!(append(2, 7.0, 8_192, 4_095), (0, 4_096));
+        assert_eq!((&list[..3], &list[8_189..]), (&[5, 6, -7][..], &[-7, 7, 8][..]));
     }
 
     #[test]

@@ -24,10 +24,12 @@ pub enum Refusal {
     OddLength = 9,
     /// A glyph number not below the count.
     NoGlyph = 10,
+    /// A NaN, an infinity or a float with a fraction in a point's x or y.
+    NotWhole = 11,
 }
 
 impl Refusal {
-    const ALL: [Refusal; 10] = [
+    const ALL: [Refusal; 11] = [
         Refusal::TooLong,
         Refusal::BadLine,
         Refusal::OutsideBox,
@@ -38,6 +40,7 @@ impl Refusal {
         Refusal::NoRoom,
         Refusal::OddLength,
         Refusal::NoGlyph,
+        Refusal::NotWhole,
     ];
 
     /// The number that the C interface and the listing program give it.
@@ -59,6 +62,7 @@ impl fmt::Display for Refusal {
             Refusal::NoRoom => "the list or buffer is too short",
             Refusal::OddLength => "a point list of odd length",
             Refusal::NoGlyph => "glyph number not below the count",
+            Refusal::NotWhole => "a NaN, an infinity or a float with a fraction in a point's x or y",
         })
     }
 }

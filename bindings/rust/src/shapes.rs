@@ -48,6 +48,22 @@ impl From<raw::Support> for SupportSet {
     }
 }
 
+/// A point as a drawing program has it.
+#[derive(Clone, Copy, PartialEq, Debug)]
+pub enum DrawnPoint {
+    Whole(i32, i32),
+    Drawn(f64, f64),
+}
+
+impl From<DrawnPoint> for raw::DrawnPoint {
+    fn from(point: DrawnPoint) -> raw::DrawnPoint {
+        match point {
+            DrawnPoint::Whole(whole_x, whole_y) => raw::DrawnPoint { kind: 1, whole_x, whole_y, drawn_x: 0.0, drawn_y: 0.0 },
+            DrawnPoint::Drawn(drawn_x, drawn_y) => raw::DrawnPoint { kind: 2, whole_x: 0, whole_y: 0, drawn_x, drawn_y },
+        }
+    }
+}
+
 /// What [`smallest_disk`](crate::smallest_disk) finds.
 #[derive(Clone, Copy, PartialEq, Eq, Hash, Debug)]
 pub struct Enclosed {

@@ -2,10 +2,12 @@
 //! names it.
 
 use reference::damage;
+use reference::drawing;
 use reference::engine::{flat, points_of, solve};
 use reference::geometry::{Disk as ExpectedDisk, Point as ExpectedPoint};
+use reference::inputs::AppendCase;
 use reference::random::Random;
-use reference::{description, figures, letters, lists, record, refusal, sheet};
+use reference::{description, edges, figures, letters, lists, record, refusal, sheet};
 use volkhidar::*;
 
 fn number<T>(answer: Result<T, refusal::Refusal>) -> Result<T, u8> {
@@ -103,6 +105,24 @@ fn compare_description(text: &[u8], room: usize, name: &str) {
     }
 }
 
+fn drawn_point(point: drawing::DrawnPoint) -> DrawnPoint {
+    match point {
+        drawing::DrawnPoint::Whole(x, y) => DrawnPoint::Whole(x, y),
+        drawing::DrawnPoint::Drawn(x, y) => DrawnPoint::Drawn(x, y),
+    }
+}
+
+/// A point behind others, and then what they all lead to.
+fn compare_append(case: &AppendCase, name: &str) {
+    let (mut list, mut expected_list) = (case.list(), case.list());
+    let count = ours(append_point(drawn_point(case.point), &mut list, case.n as usize));
+    assert_eq!(count, number(drawing::append(case.point, &mut expected_list, case.n)), "append: {name}");
+    assert_eq!(list, expected_list, "the list appended to: {name}");
+    if let Ok(count) = count {
+        compare_list(&list[..2 * count], name);
+    }
+}
+
 fn compare_sheet(bytes: &[u8], k: usize, name: &str) {
     assert_eq!(ours(glyph(bytes, k)), number(sheet::glyph(bytes, k)), "sheet: {name}");
 }
@@ -192,6 +212,36 @@ fn descriptions_of_one_set() {
         assert_eq!(record_of(&text, &mut record), Ok(()), "seed {seed}");
         assert_eq!(record_of(&other, &mut other_record), Ok(()), "seed {seed}");
         assert_eq!(record, other_record, "seed {seed}");
+    }
+}
+
+#[test]
+fn points_from_a_drawing_program() {
+    for seed in 0..50_000 {
+        compare_append(&damage::append(&mut Random::new(seed)), &format!("seed {seed}"));
+    }
+    for edge in edges::drawings() {
+        compare_append(&edge.given, edge.says);
+    }
+}
+
+/// A whole number as a float leads to the same answers, whatever stands in the lists behind the points.
+#[test]
+fn whole_numbers_as_floats() {
+    for seed in 0..20_000 {
+        let mut random = Random::new(seed);
+        let (x, y) = (random.between(-1, 1_001) as i32, random.between(-251, 751) as i32);
+        let points = random.below(9);
+        let front = flat(&lists::draw(random.pick(&lists::KINDS), points + 1, &mut random))[..2 * points].to_vec();
+        let (mut list, mut other) = (vec![9; 8_192], vec![-9; 8_200]);
+        list[..2 * points].copy_from_slice(&front);
+        other[..2 * points].copy_from_slice(&front);
+        let whole = append_point(DrawnPoint::Whole(x, y), &mut list, points);
+        let drawn = append_point(DrawnPoint::Drawn(x.into(), y.into()), &mut other, points);
+        assert_eq!(whole, drawn, "seed {seed}");
+        if let Ok(count) = whole {
+            assert_eq!(smallest_disk(&mut list[..2 * count]), smallest_disk(&mut other[..2 * count]), "seed {seed}");
+        }
     }
 }
 
