@@ -7,7 +7,8 @@
 use Prim.Native.Nat.{ℕ}
 use mathlib.Core.Bool.{Bool, true, false}
 use Rattle.answers.specs.declared.Refusal.{Refusal}
-use Rattle.answers.specs.declared.Refusal.the-variants.{TooLong, BadLine, OutsideBox, TooMany, NoPoint, BadSheet, BadRecord, NoRoom, OddLength, NoGlyph, NotWhole}
+use Rattle.answers.specs.declared.Refusal.the-variants.{TooLong, BadLine, OutsideBox, TooMany, NoPoint, BadSheet, BadRecord, NoRoom}
+use Rattle.answers.specs.declared.Refusal.the-variants.{OddLength, NoGlyph, NotWhole}
 
 pub data Outcome (A : Type 0) : Type 0 where
   given : A → Outcome A

@@ -26,10 +26,10 @@ use Rattle.geometry.specs.Points.{firstPoints}
 use Rattle.point_lists.specs.Put.{putAt}
 use Rattle.point_lists.proofs.Put.{firstPoints-put}
 use Rattle.engine.specs.Engine.{Enclosure, encloseOf}
-use Rattle.whole_floats.specs.Whole.{StandsFor, wholeOf}
-use Rattle.whole_floats.proofs.WholeLaws.{whole-stands, stands-whole, given-whole, given-broken}
+use Rattle.whole_floats.specs.Whole.{wholeOf}
+use Rattle.whole_floats.proofs.WholeLaws.{whole-stands, stands-whole, given-broken}
 use Rattle.drawn_points.specs.declared.DrawnPoint.{DrawnPoint}
-use Rattle.drawn_points.specs.Appending.{placeOf, takenOf, appendOf, listAfter, putBehind}
+use Rattle.drawn_points.specs.Appending.{takenOf, appendOf, listAfter, putBehind}
 use Rattle.drawn_points.proofs.Behind.{taken-place, put-behind, front-behind}
 use Rattle.validity.specs.Valid.{valid}
 use Rattle.radius.specs.Radius.{radiusOf}

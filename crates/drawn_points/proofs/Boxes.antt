@@ -6,7 +6,7 @@
 --   floats-judged, x-broken, y-broken       : the verdict on two floats, by what each was read as: far numbers need not be told apart
 use mathlib.Core.Path.{_≡_, refl, sym, ap, ap₂, _∙_}
 use mathlib.Core.Bool.{Bool, true, false, not, _&&_}
-use Prim.Native.Nat.{ℕ, _≤_, _<_}
+use Prim.Native.Nat.{_≤_}
 use native.Mathlib.Nat.{lt-of-le-of-lt}
 use borrow.Author.Tests.{lt-ltb}
 use lib.Dec.{lit<}

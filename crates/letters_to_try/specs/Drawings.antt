@@ -4,17 +4,21 @@
 --   floats        == bits of floats, and the whole numbers that they stand for, or 11
 --   Appends a     == the call, lent any list that is long enough, answers so for the point behind so many points
 --   appends       == points, and what the call answers: 11 before 3 before 4
+--   firstOfF rest == a list that begins with the first two points of letter F
+--   CompletesF p  == with p put behind them, the engine is given letter F's list
 use mathlib.Core.Path.{_≡_}
 use mathlib.Core.List.{List, [], _∷_}
 use Prim.Native.Nat.{ℕ, _*_, _-_, _^_, _≤_}
 use lib.IntN.{ℤ, pos, negℤ}
-use lib.ListN.{length}
+use lib.ListN.{length, take}
 use lib.Ieee.{Float, binary64, ofBits}
 use Rattle.answers.specs.Outcome.{Outcome, given, refused}
+use Rattle.geometry.specs.Points.{flat}
 use Rattle.whole_floats.specs.Whole.{wholeOf}
 use Rattle.drawn_points.specs.declared.DrawnPoint.{DrawnPoint}
 use Rattle.drawn_points.specs.declared.DrawnPoint.the-variants.{Whole, Drawn}
-use Rattle.drawn_points.specs.Appending.{appendOf}
+use Rattle.drawn_points.specs.Appending.{appendOf, listAfter}
+use Rattle.letters_to_try.specs.Letters.{at}
 
 abbrev pub float : ℕ → Float
 float b = ofBits binary64 b
@@ -99,3 +103,17 @@ appends =
     ∷ drawn 0x7ff0_0000_0000_0000 0 4096 (refused 11)
     ∷ drawn 0 1 0 (refused 11)
     ∷ []
+
+-- ---- letter F, its last point from a drawing program
+
+abbrev pub firstOfF : List ℤ → List ℤ
+firstOfF rest = pos 0 ∷ pos 0 ∷ pos 4 ∷ pos 0 ∷ rest
+
+pub record CompletesF (p : DrawnPoint) : Type 0 where
+  pub number : (rest : List ℤ) → 8188 ≤ length rest → appendOf p (firstOfF rest) 2 ≡ given 3
+  pub list : (rest : List ℤ) → 8188 ≤ length rest → take 6 (listAfter p (firstOfF rest) 2) ≡ flat (at 0 0 ∷ at 4 0 ∷ at 2 3 ∷ [])
+
+-- (2, 3), in whole numbers and in floats
+pub record FromDrawing : Type 0 where
+  pub in-whole-numbers : CompletesF (Whole (pos 2) (pos 3))
+  pub in-floats : CompletesF (Drawn (float 0x4000_0000_0000_0000) (float 0x4008_0000_0000_0000))

@@ -14,7 +14,6 @@ use mathlib.Core.Bool.{Bool, true, false, not, _||_}
 use mathlib.Core.List.{List, [], _∷_}
 use mathlib.Core.Option.{none, some}
 use lib.Dec.{eqb}
-use lib.IntN.{ℤ}
 use lib.ListN.{length, drop}
 use Rattle.numerals.specs.declared.Natural as natural
 use Rattle.numerals.specs.declared.Natural.{Natural}

@@ -8,7 +8,6 @@ use mathlib.Core.Logic.{_⊎_, inl, inr}
 use mathlib.Core.Bool.{true, true≢false}
 use mathlib.Core.List.{[], _∷_}
 use lib.IntN.{ℤ}
-use lib.Ieee.{Float}
 use Rattle.answers.specs.Outcome.{Outcome, given, refused, andThen}
 use Rattle.answers.proofs.OutcomeLaws.{not-given, given-same, same-given}
 use Rattle.geometry.specs.declared.Point.{Point}

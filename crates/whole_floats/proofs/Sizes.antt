@@ -7,7 +7,7 @@
 --   cut-lt, cut              : the whole part of a float between the edges
 --   castable                 : such a whole part is a float without loss
 --   back-test                : and equals the float it was cut from exactly where nothing was cut off
-use mathlib.Core.Path.{_≡_, refl, sym, ap, ap₂, _∙_, subst}
+use mathlib.Core.Path.{_≡_, refl, sym, ap, _∙_}
 use mathlib.Core.Bool.{Bool, true, false, _&&_, _||_, Bool·beq}
 use Prim.Native.Nat.{ℕ, zero, suc, _+_, _-_, _*_, _/_, _%_, _^_, _≤_, _<_, min}
 use native.Mathlib.Nat.{mul-one, mod-one, mul-right-comm, zero-mul, eq-of-mul-eq-mul-right, div-add-mod', div-lt-iff-lt-mul, le-of-lt}
@@ -16,7 +16,7 @@ use borrow.Author.Tests.{ltb-true, ltb-false, eqb-true, eqb-false, eq-eqb, ne-eq
 use lib.Dec.{T, eqb, ltb, leb, ltb→lt, le→leb, lit≤}
 use lib.IntN.{ℤ, pos, negsuc}
 use lib.Pow.{pow-pos}
-use lib.Ieee.{Float, nan, inf, fin, binary64, up, down, lt, eq, level, fits, ofInt, toSigned, inFloat}
+use lib.Ieee.{Float, nan, inf, fin, binary64, up, down, lt, eq, fits, ofInt, toSigned, inFloat}
 use lib.Ieee.Back.{round-whole}
 use lib.Ieee.Exact.{HasValue}
 use lib.Ieee.Fits.{down-pos, and-l, and-r}

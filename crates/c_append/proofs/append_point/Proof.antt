@@ -1,9 +1,7 @@
 -- `c_append::append_point` meets its contract: each case of the answer is `loadAnswer` of its outcome, and the list is as the call leaves it.
 use mathlib.Core.Path.{_≡_, ap, _∙_}
-use mathlib.Core.List.{List}
 use Prim.Native.Nat.{ℕ}
 use borrow.Author.Needs.{needs}
-use lib.IntN.{ℤ}
 use Rattle.answers.specs.Outcome.{refused}
 use Rattle.drawn_points.specs.declared.DrawnPoint.{DrawnPoint}
 use Rattle.drawn_points.specs.Appending.{appendOf, listAfter, outcome}

@@ -1,5 +1,5 @@
 -- `cases::float_at` is safe and ends: the bits that are made a float are no NaN's.
-use mathlib.Core.Path.{_≡_, sym, ap, _∙_, subst}
+use mathlib.Core.Path.{sym, _∙_, subst}
 use mathlib.Core.Bool.{Bool, not}
 use borrow.Author.Needs.{needs}
 use borrow.Author.Tests.{le-ltb}

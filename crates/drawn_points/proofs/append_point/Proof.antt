@@ -29,7 +29,8 @@ returns-2 c =
     let found = c .before .before in
     let long = found .before .before in
     let a = long .before .before .args in
-    refused-after (a .p) (a .list .now) (a .n) (taken-full (a .p) (a .list .now) (a .n) (long .if1 .left) (found .found .given .0 .0) (inside found) (c .if2 .taken))
+    refused-after (a .p) (a .list .now) (a .n)
+    (taken-full (a .p) (a .list .now) (a .n) (long .if1 .left) (found .found .given .0 .0) (inside found) (c .if2 .taken))
 
 put-point-requires : tie.Need-put-point-requires
 put-point-requires c κs = search needs

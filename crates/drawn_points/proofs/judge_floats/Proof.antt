@@ -1,12 +1,10 @@
 -- `drawn_points::judge_floats` meets its contract: each float is read first, and what both are read as decides as `judged` has it.
 use mathlib.Core.Path.{_≡_, sym, ap, _∙_}
 use borrow.Author.Needs.{needs}
-use lib.Ieee.{Float}
-use lib.IntN.{ℤ}
 use mir.Facts.{toZ-ofZ}
 use mir.Syntax.{w64}
-use mir.Val.{SFits, toZ, ofZ}
-use Rattle.answers.specs.Outcome.{given, refused}
+use mir.Val.{SFits}
+use Rattle.answers.specs.Outcome.{given}
 use Rattle.whole_floats.specs.Near.{nearOf, outcome}
 use Rattle.drawn_points.specs.Judging.{boxed}
 use Rattle.drawn_points.proofs.Boxes.{floats-judged, x-broken, y-broken}

@@ -9,7 +9,6 @@ use mir.Val.{SFits, toZ, ofZ}
 use Rattle.answers.specs.Outcome.{given}
 use Rattle.integers.specs.Order.{between}
 use Rattle.geometry.specs.declared.Limits.{Limits}
-use Rattle.geometry.specs.EmBox.{em}
 use Rattle.point_lists.proofs.Sets.{point-path}
 use Rattle.drawn_points.proofs.Boxes.{in-x, in-y, boxed-inside, boxed-beside, boxed-above, narrow-x, narrow-y}
 use Rattle.drawn_points.proofs.point_in_box.Statement.{statement}

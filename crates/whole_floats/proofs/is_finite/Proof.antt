@@ -1,5 +1,5 @@
 -- `whole_floats::is_finite` meets its contract: 1.0 / 0.0 is the infinity, below which lies every float but itself and a NaN.
-use mathlib.Core.Path.{_≡_, refl, sym, _∙_}
+use mathlib.Core.Path.{_≡_, refl, sym}
 use mathlib.Core.Bool.{true, false, true≢false}
 use lib.Ieee.{Float, nan, inf, fin, lt, ofBits, div, neg}
 use lib.Ieee.Scale.{finite}

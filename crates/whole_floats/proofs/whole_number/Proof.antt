@@ -1,12 +1,12 @@
 -- `whole_floats::whole_number` meets its contract: between −2^53 and 2^53 the whole part as a float tells whether there is a fraction; beyond
 -- them a finite float has none.
 use mathlib.Core.Path.{_≡_, sym, ap, _∙_, subst}
-use mathlib.Core.Logic.{_⊎_, inl, inr}
-use mathlib.Core.Bool.{true, false}
+use mathlib.Core.Logic.{inl, inr}
+use mathlib.Core.Bool.{true}
 use borrow.Author.Needs.{needs}
 use lib.Dec.{T}
 use lib.IntN.{ℤ}
-use lib.Ieee.{Float, binary64, fits, ofBits, ofInt, neg, eq, lt, inFloat, toSigned}
+use lib.Ieee.{binary64, ofBits, ofInt, neg, eq, lt, inFloat, toSigned}
 use mir.Syntax.{w64}
 use mir.Val.{toZ, ofZ}
 use mir.Facts.{toZ-ofZ}
@@ -35,7 +35,8 @@ truncating-f64-to-i64-requires c κs = within-i64 (c .before .before .args .v) (
 int-to-float-if3 : tie.Need-int-to-float-if3
 int-to-float-if3 c =
     let then2 = c .before .before in
-    subst (λ (z : ℤ). T (inFloat binary64 z)) (sym (cast-is (c .before))) (back-in-float (then2 .before .before .args .v) (below (then2 .before)) (above then2))
+    subst (λ (z : ℤ). T (inFloat binary64 z)) (sym (cast-is (c .before)))
+    (back-in-float (then2 .before .before .args .v) (below (then2 .before)) (above then2))
 
 returns : tie.Need-returns
 returns c =
