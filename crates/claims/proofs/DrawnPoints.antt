@@ -1,10 +1,11 @@
 -- Document 02, item 2 holds (specs/DrawnPoints.antt).
 --
 --   answers-same : whole radius, preview and writer answer alike in two buffers that are both long enough, or both not
+--   whole-same   : floats of one value stand for one number, or for none
 --   taken-same   : two points of equal value are taken, or refused, alike
 --   drawn-points : DrawnPoints
 use mathlib.Core.Path.{_≡_, refl, sym, ap, ap₂, _∙_}
-use mathlib.Core.Logic.{_↔_}
+use mathlib.Core.Logic.{_↔_, _⊎_, inl, inr}
 use mathlib.Core.Bool.{Bool, true, false, not}
 use mathlib.Core.List.{List, [], _∷_, _++_}
 use Prim.Native.Nat.{ℕ, suc, _+_, _*_, _/_, _%_, _≤_, _<_}
@@ -13,23 +14,28 @@ use native.Mathlib.Numerals.{add-one}
 use native.Mathlib.Omega.{arith}
 use borrow.Author.Tests.{ltb-true, ltb-false, lt-ltb, le-ltb, eqb-false}
 use lib.Dec.{leb, ltb, eqb}
-use lib.IntN.{ℤ, pos}
+use lib.IntN.{ℤ, pos, _*ℤ_}
 use lib.ListN.{length, take, drop}
 use lib.Ieee.{Float, nan, inf, fin, up, down}
+use lib.Ieee.Fits.{down-pos}
 use Rattle.answers.specs.Outcome.{Outcome, given, refused, refuseIf, andThen}
 use Rattle.answers.proofs.OutcomeLaws.{not-given, refused-same, given-same}
 use Rattle.integers.specs.Order.{signed}
+use Rattle.integers.proofs.Order.{≡-cancel}
+use Rattle.integers.proofs.Laws.{*-comm, *-assoc}
 use Rattle.geometry.specs.declared.Point.{Point}
 use Rattle.geometry.specs.declared.Disk.{Disk}
 use Rattle.geometry.specs.EmBox.{inEmBox}
 use Rattle.geometry.specs.Points.{firstPoints}
 use Rattle.point_lists.specs.Put.{putAt}
+use Rattle.point_lists.proofs.Sets.{point-path}
 use Rattle.point_lists.proofs.Put.{firstPoints-put}
 use Rattle.engine.specs.Engine.{Enclosure, encloseOf}
-use Rattle.whole_floats.specs.Whole.{wholeOf}
-use Rattle.whole_floats.proofs.WholeLaws.{whole-stands, stands-whole, given-broken}
+use Rattle.whole_floats.specs.Whole.{StandsFor, wholeOf}
+use Rattle.whole_floats.proofs.WholeLaws.{whole-stands, stands-whole, whole-or-broken, given-broken, not-zero}
 use Rattle.drawn_points.specs.declared.DrawnPoint.{DrawnPoint}
-use Rattle.drawn_points.specs.Appending.{takenOf, appendOf, listAfter, putBehind}
+use Rattle.drawn_points.specs.declared.DrawnPoint.the-variants.{Whole, Drawn}
+use Rattle.drawn_points.specs.Appending.{placeOf, takenOf, appendOf, listAfter, putBehind}
 use Rattle.drawn_points.proofs.Behind.{taken-place, put-behind, front-behind}
 use Rattle.validity.specs.Valid.{valid}
 use Rattle.radius.specs.Radius.{radiusOf}
@@ -43,7 +49,7 @@ use Rattle.rules.proofs.Drawings.{names-place, named-once}
 use Rattle.rules.proofs.Calls as calls
 use Rattle.claims.specs.Values.{bits}
 use Rattle.claims.specs.Demand3.{Answers, answersFor}
-use Rattle.claims.specs.DrawnPoints.{Broken, not-a-number, infinite, fraction, Led, led, DrawnPoints}
+use Rattle.claims.specs.DrawnPoints.{Broken, not-a-number, infinite, fraction, SameNumber, EqualValue, Led, led, DrawnPoints}
 use Rattle.claims.proofs.Records.{filled}
 use Rattle.claims.proofs.Whole.{both-given}
 
@@ -111,12 +117,47 @@ answers-same e b c r =
 room : {n k : ℕ} → (8192 ≤ k) × (n < 4096) → 2 * n + 2 ≤ k
 room h = let l = h .0 in let m = h .1 in omega arith
 
-module _ (p q : DrawnPoint) (c : Point) (is : Names p c) (also : Names q c) (n : ℕ) (l m : List ℤ) (long : (8192 ≤ length l) ↔ (8192 ≤ length m)) where
+-- a float of the same value stands for the same number
+stands-same : (v w : Float) (z : ℤ) → SameNumber v w → StandsFor v z → StandsFor w z
+stands-same nan w z e h = absurd e
+stands-same (inf s) w z e h = absurd e
+stands-same (fin s m e) nan z g h = absurd g
+stands-same (fin s m e) (inf t) z g h = absurd g
+stands-same (fin s m e) (fin t n d) z g h =
+    ≡-cancel (not-zero (down e) (down-pos e))
+    (*-comm (pos (down e)) (signed t (n * up d))
+    ∙ sym g
+    ∙ ap (λ (x : ℤ). x *ℤ pos (down d)) (h ∙ *-comm z (pos (down e)))
+    ∙ *-assoc (pos (down e)) z (pos (down d)))
+
+same-sym : (v w : Float) → SameNumber v w → SameNumber w v
+same-sym nan w e = absurd e
+same-sym (inf s) w e = absurd e
+same-sym (fin s m e) nan g = absurd g
+same-sym (fin s m e) (inf t) g = absurd g
+same-sym (fin s m e) (fin t n d) g = sym g
+
+whole-same : (v w : Float) → SameNumber v w → wholeOf v ≡ wholeOf w
+whole-same v w e = go (whole-or-broken v) (whole-or-broken w)
+  where
+    go : ((z : ℤ) × (wholeOf v ≡ given z)) ⊎ (wholeOf v ≡ refused 11) → ((z : ℤ) × (wholeOf w ≡ given z)) ⊎ (wholeOf w ≡ refused 11) → wholeOf v ≡ wholeOf w
+    go (inl a) b = a .1 ∙ sym (stands-whole w (a .0) (stands-same v w (a .0) e (whole-stands v (a .0) (a .1))))
+    go (inr a) (inl b) = stands-whole v (b .0) (stands-same w v (b .0) (same-sym v w e) (whole-stands w (b .0) (b .1))) ∙ sym (b .1)
+    go (inr a) (inr b) = a ∙ sym b
+
+place-same : (p q : DrawnPoint) → EqualValue p q → placeOf p ≡ placeOf q
+place-same (Whole x y) (Whole u v) e = ap given (point-path (e .0) (e .1))
+place-same (Whole x y) (Drawn u v) e = sym (names-place (Drawn u v) (record { x = x; y = y }) e)
+place-same (Drawn x y) (Whole u v) e = names-place (Drawn x y) (record { x = u; y = v }) e
+place-same (Drawn x y) (Drawn u v) e =
+    ap₂ (λ (o q : Outcome ℤ). andThen o (λ a. andThen q (λ b. given (record { x = a; y = b })))) (whole-same x u (e .0)) (whole-same y v (e .1))
+
+module _ (p q : DrawnPoint) (equal : EqualValue p q) (n : ℕ) (l m : List ℤ) (long : (8192 ≤ length l) ↔ (8192 ≤ length m)) where
   taken-same : takenOf p l n ≡ takenOf q m n
   unfolding takenOf
   taken-same =
       ap₂ (λ (t : Bool) (o : Outcome Point). refuseIf t 8 (andThen o (λ c. refuseIf (not (inEmBox c)) 3 (refuseIf (leb 4096 n) 4 (given c)))))
-      (same-room 8192 (length l) (length m) long) (names-place p c is ∙ sym (names-place q c also))
+      (same-room 8192 (length l) (length m) long) (place-same p q equal)
 
   -- the n + 1 points that the engine is given
   handed-same : take (2 * n) l ≡ take (2 * n) m → (d : Point) → takenOf p l n ≡ given d → takenOf q m n ≡ given d
@@ -182,5 +223,5 @@ drawn-points = record {
   zeros = zeros;
   number = λ p l n k. ((λ h. (calls.append p l n .taken .0 (k, h), number-is p l n h .1 .1)), numbered p l n k);
   list = put;
-  same = λ p q c is also n l m e long a b r. led-same p q c is also n l m long e a b r;
+  same = λ p q equal n l m e long a b r. led-same p q equal n l m long e a b r;
 }

@@ -2,27 +2,30 @@
 -- and that a refused call changes nothing are claimed with the other calls' (Demand1.antt). Shown in proofs/DrawnPoints.antt.
 --
 --   Broken v          == v is a NaN, an infinity, or a float with a fraction
+--   SameNumber v w    == the finite floats v and w have one value, whole or not
+--   EqualValue p q    == the points p and q have equal values, x and y, each in whole numbers or in floats
 --   Led               == what a point leads to: the answers of demand 3 (disk, support set, whole radius, preview's bits, record) and the test count
 --   led p l n b       == the calls one after another: p put behind n points of the list l; engine, given those n + 1 points alone; whole radius,
 --                        preview and writer, lent the buffer b, given what the engine returned
 --   DrawnPoints       == all that item 2 says
 --
--- `Names p c` (rules/specs/Rules.antt): p's whole numbers are c's, or its floats stand for them exactly. So two points of equal value are two that
--- name one point, whole numbers or floats.
+-- `Names p c` (rules/specs/Rules.antt): p's whole numbers are c's, or its floats stand for them exactly.
 use mathlib.Core.Path.{_≡_}
 use mathlib.Core.Logic.{_↔_}
 use mathlib.Core.Bool.{Bool}
 use mathlib.Core.List.{List, [], _∷_, _++_}
 use Prim.Native.Nat.{ℕ, suc, _*_, _%_, _≤_}
-use lib.IntN.{ℤ, pos}
+use lib.IntN.{ℤ, pos, _*ℤ_}
 use lib.ListN.{length, take, drop}
 use lib.Ieee.{Float, nan, inf, fin, up, down}
 use Rattle.answers.specs.Outcome.{Outcome, given, refused, andThen}
+use Rattle.integers.specs.Order.{signed}
 use Rattle.geometry.specs.declared.Point.{Point}
 use Rattle.geometry.specs.Points.{firstPoints}
 use Rattle.engine.specs.Engine.{encloseOf}
 use Rattle.whole_floats.specs.Whole.{StandsFor, wholeOf}
 use Rattle.drawn_points.specs.declared.DrawnPoint.{DrawnPoint}
+use Rattle.drawn_points.specs.declared.DrawnPoint.the-variants.{Whole, Drawn}
 use Rattle.drawn_points.specs.Appending.{appendOf, listAfter}
 use Rattle.record_writer.specs.Layout.{recordLength}
 use Rattle.rules.specs.Row.{AllKept}
@@ -34,6 +37,19 @@ pub data Broken : Float → Type 0 where
   infinite : {s : Bool} → Broken (inf s)
   -- m·2^e is no whole number
   fraction : {s : Bool} {m : ℕ} {e : ℤ} → (m * up e % down e ≡ 0 → ⊥) → Broken (fin s m e)
+
+abbrev pub SameNumber : Float → Float → Type 0
+SameNumber nan w = ⊥
+SameNumber (inf s) w = ⊥
+SameNumber (fin s m e) nan = ⊥
+SameNumber (fin s m e) (inf t) = ⊥
+SameNumber (fin s m e) (fin t n d) = signed s (m * up e) *ℤ pos (down d) ≡ signed t (n * up d) *ℤ pos (down e)
+
+abbrev pub EqualValue : DrawnPoint → DrawnPoint → Type 0
+EqualValue (Whole x y) (Whole u v) = (x ≡ u) × (y ≡ v)
+EqualValue (Whole x y) (Drawn u v) = StandsFor u x × StandsFor v y
+EqualValue (Drawn x y) (Whole u v) = StandsFor x u × StandsFor y v
+EqualValue (Drawn x y) (Drawn u v) = SameNumber x u × SameNumber y v
 
 pub record Led : Type 0 where
   pub answers : Answers
@@ -63,7 +79,7 @@ pub record DrawnPoints : Type 0 where
   -- behind the n corners, and whichever buffers are lent; what any of the calls refuses is refused alike, a list or a buffer that is too short
   -- in both cases too
   pub same :
-      (p q : DrawnPoint) (c : Point) → Names p c → Names q c
+      (p q : DrawnPoint) → EqualValue p q
       → (n : ℕ) (l m : List ℤ) → take (2 * n) l ≡ take (2 * n) m → (8192 ≤ length l) ↔ (8192 ≤ length m)
       → (b d : List ℕ) → (recordLength ≤ length b) ↔ (recordLength ≤ length d)
       → led p l n b ≡ led q m n d

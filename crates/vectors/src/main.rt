@@ -113,8 +113,25 @@ fn get_drawn(bytes: &[u8], kind: u8) -> DrawnPoint {
     DrawnPoint::Drawn(cases::float_at(bytes, 1), cases::float_at(bytes, 9))
 }
 
-// The engine on the first k points of a list.
+// How many points there are with p behind n of them; 0 where it is refused.
+fn put(p: DrawnPoint, list: &mut [i16], n: usize) -> usize {
+    match drawn_points::append_point(p, list, n) {
+        drawn_points::Appended::Points(k) => {
+            printing::print_count(b"points", k as u64);
+            k
+        }
+        drawn_points::Appended::Refused(r) => {
+            printing::print_refusal(r);
+            0
+        }
+    }
+}
+
+// The engine on the first k points of a list, if there is one.
 fn solve_front(list: &mut [i16], k: usize) {
+    if k == 0 {
+        return;
+    }
     if k <= 4096 {
         if 8192 <= list.len() {
             solve(&mut list[..2 * k]);
@@ -123,17 +140,9 @@ fn solve_front(list: &mut [i16], k: usize) {
 }
 
 fn append(p: DrawnPoint, list: &mut [i16], n: usize) {
-    match drawn_points::append_point(p, list, n) {
-        drawn_points::Appended::Points(k) => {
-            printing::print_count(b"points", k as u64);
-            printing::print_count(b"list", checksum::of_list(list));
-            solve_front(list, k);
-        }
-        drawn_points::Appended::Refused(r) => {
-            printing::print_refusal(r);
-            printing::print_count(b"list", checksum::of_list(list));
-        }
-    }
+    let k = put(p, list, n);
+    printing::print_count(b"list", checksum::of_list(list));
+    solve_front(list, k);
 }
 
 // A: a point, how many points are there in eight bytes, the length of the lent list in two; then the numbers at its front.

@@ -1,6 +1,7 @@
 -- The whole number that a float stands for.
 --
 --   abs-signed, signed-*         : a sign before a size, and before a product
+--   not-zero                     : a size above 0
 --   given-whole, given-broken    : `wholeOf` of a finite float, by whether there is a remainder
 --   whole-stands, stands-whole   : `wholeOf v` gives z exactly where v stands for z
 --   whole-or-broken              : and is 11 otherwise
@@ -32,6 +33,9 @@ abs-signed false n = refl
 pub signed-* : (s : Bool) (a b : ℕ) → signed s (a * b) ≡ signed s a *ℤ pos b
 signed-* true a b = ap negℤ (sym (pos-*ℤ-pos a b)) ∙ sym (neg-* (pos a) (pos b))
 signed-* false a b = sym (pos-*ℤ-pos a b)
+
+pub not-zero : (D : ℕ) → 0 < D → pos D ≢ pos 0
+not-zero D h e = let z : D ≡ 0 = ap natAbs e in omega arith
 
 -- ---- with and without a remainder
 
@@ -72,10 +76,7 @@ stands-whole (fin s m e) z h =
     let scaled : signed s (natAbs z) *ℤ pos D ≡ z *ℤ pos D = sym (signed-* s (natAbs z) D) ∙ ap (signed s) (sym size) ∙ h in
     given-whole s m e none
     ∙ ap (λ (n : ℕ). given (signed s n)) cut
-    ∙ ap given (≡-cancel (positive D (down-pos e)) (*ℤ-comm (pos D) (signed s (natAbs z)) ∙ scaled ∙ *ℤ-comm z (pos D)))
-  where
-    positive : (D : ℕ) → 0 < D → pos D ≢ pos 0
-    positive D h e = let z : D ≡ 0 = ap natAbs e in omega arith
+    ∙ ap given (≡-cancel (not-zero D (down-pos e)) (*ℤ-comm (pos D) (signed s (natAbs z)) ∙ scaled ∙ *ℤ-comm z (pos D)))
 
 pub whole-or-broken : (v : Float) → ((z : ℤ) × (wholeOf v ≡ given z)) ⊎ (wholeOf v ≡ refused 11)
 unfolding wholeOf

@@ -13,6 +13,8 @@ pub enum Coordinate {
 // 2^53. From here on every float is a whole number, and lies beyond every em box.
 const FAR: i64 = 9_007_199_254_740_992;
 
+const EDGE: f64 = 9_007_199_254_740_992.0;
+
 // Every comparison with a NaN fails.
 fn is_finite(v: f64) -> bool
     ensures { λ r. ⌜ r ≡ finite v ⌝ }
@@ -28,8 +30,8 @@ fn is_finite(v: f64) -> bool
 pub fn whole_number(v: f64) -> Coordinate
     ensures { λ r. ⌜ outcome r ≡ nearOf v ⌝ }
 {
-    if v < 9_007_199_254_740_992.0 {
-        if -9_007_199_254_740_992.0 < v {
+    if v < EDGE {
+        if -EDGE < v {
             let whole = std::num::truncating_f64_to_i64(v);
             if (whole as f64) == v {
                 return Coordinate::Whole(whole);

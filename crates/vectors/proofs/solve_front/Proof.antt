@@ -6,6 +6,9 @@ use borrow.Author.Needs.{needs}
 use Rattle.vectors.proofs.solve_front.Statement.{statement}
 use Rattle.vectors.proofs.solve_front.Tie as tie
 
+returns : tie.Need-returns
+returns c = search needs
+
 mul-solve : tie.Need-mul-solve
 mul-solve c = search needs
 
@@ -21,24 +24,25 @@ solve-requires c κs = search needs
 same-length : tie.Need-same-length
 same-length c = search needs
 
-returns : tie.Need-returns
-returns c = search needs
-
 returns-2 : tie.Need-returns-2
 returns-2 c = search needs
 
 returns-3 : tie.Need-returns-3
 returns-3 c = search needs
 
+returns-4 : tie.Need-returns-4
+returns-4 c = search needs
+
 pub solve-front-spec : {M : Type 1} → statement M
 solve-front-spec =
     tie.close
     (tie.spec
+    returns
     mul-solve
     slice-relend-prefix-solve
     slice-aggregate-solve
     solve-requires
     same-length
-    returns
     returns-2
-    returns-3)
+    returns-3
+    returns-4)
