@@ -115,3 +115,14 @@ pub fn fill_list(bytes: &[u8], list: &mut [i16]) {
         i += 1;
     }
 }
+
+pub fn wide(b: u8) -> usize
+    ensures { λ r. ⌜ r ≤ 255 ⌝ }
+{
+    b as usize
+}
+
+// The number of two bytes, high byte first.
+pub fn joined(high: u8, low: u8) -> usize {
+    256 * wide(high) + wide(low)
+}

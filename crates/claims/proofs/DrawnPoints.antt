@@ -23,6 +23,7 @@ use Rattle.answers.proofs.OutcomeLaws.{not-given, refused-same, given-same}
 use Rattle.integers.specs.Order.{signed}
 use Rattle.integers.proofs.Order.{≡-cancel}
 use Rattle.integers.proofs.Laws.{*-comm, *-assoc}
+use Rattle.integers.proofs.Signs.{not-zero}
 use Rattle.geometry.specs.declared.Point.{Point}
 use Rattle.geometry.specs.declared.Disk.{Disk}
 use Rattle.geometry.specs.EmBox.{inEmBox}
@@ -32,7 +33,7 @@ use Rattle.point_lists.proofs.Sets.{point-path}
 use Rattle.point_lists.proofs.Put.{firstPoints-put}
 use Rattle.engine.specs.Engine.{Enclosure, encloseOf}
 use Rattle.whole_floats.specs.Whole.{StandsFor, wholeOf}
-use Rattle.whole_floats.proofs.WholeLaws.{whole-stands, stands-whole, whole-or-broken, given-broken, not-zero}
+use Rattle.whole_floats.proofs.WholeLaws.{whole-stands, stands-whole, whole-or-broken, given-broken}
 use Rattle.drawn_points.specs.declared.DrawnPoint.{DrawnPoint}
 use Rattle.drawn_points.specs.declared.DrawnPoint.the-variants.{Whole, Drawn}
 use Rattle.drawn_points.specs.Appending.{placeOf, takenOf, appendOf, listAfter, putBehind}

@@ -6,6 +6,7 @@ pub mod Poly
 pub mod Ring
 -- size and order
 pub mod Abs
+pub mod Signs
 pub mod Tests
 pub mod Order
 pub mod Linear

@@ -117,8 +117,8 @@ Names (Drawn x y) c = StandsFor x (c .x) × StandsFor y (c .y)
 
 -- "8 first, as for the loader; 11 for a NaN, an infinity or a float with a fraction in x or y; then 3; then 4 when 4,096 or more are there"
 abbrev pub appendRow : DrawnPoint → List ℤ → ℕ → List Rule
-appendRow p list n =
-    8 unless (8192 ≤ length list)
+appendRow p l n =
+    8 unless (8192 ≤ length l)
     ∷ 11 unless ((c : Point) × Names p c)
     ∷ 3 unless ((c : Point) → Names p c → Inside em c)
     ∷ 4 unless (n < 4096)

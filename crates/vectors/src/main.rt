@@ -1,5 +1,4 @@
 // Runs the stored cases (tests/README.md): each names a call and gives it its bytes; what the calls answer and leave is printed.
-use drawn_points::DrawnPoint;
 use geometry::Disk;
 use geometry::Point;
 use geometry::SupportSet;
@@ -32,133 +31,6 @@ fn print_preview(d: Disk, t: SupportSet) {
     }
 }
 
-// The engine on a list of points alone.
-fn solve(list: &mut [i16]) {
-    match engine::smallest_disk(list) {
-        engine::Enclosed::Found(d, t, tests) => {
-            report::print_enclosure(d, t, tests);
-        }
-        engine::Enclosed::Refused(r) => printing::print_refusal(r),
-    }
-    printing::print_count(b"left", checksum::of_list(list));
-}
-
-// The list as the engine leaves it.
-fn print_order(list: &mut [i16]) {
-    engine::smallest_disk(list);
-    printing::print_count(b"left", checksum::of_list(list));
-}
-
-// The list of an accepted description, as the engine leaves it.
-fn print_left(text: &[u8]) {
-    let mut list = [0i16; 8192];
-    if let description::Loaded::Points(n) = description::load(text, &mut list) {
-        if n <= 4096 {
-            print_order(&mut list[..2 * n]);
-        }
-    }
-}
-
-// D: a description, as the listing prints it, and the list that the engine leaves.
-fn run_listing(text: &[u8]) {
-    report::print_description(text);
-    print_left(text);
-}
-
-// E: a list of points, through the engine.
-fn run_engine(bytes: &[u8]) {
-    let mut list = [0i16; 8200];
-    let n = bytes.len() / 2;
-    if n <= 8200 {
-        cases::fill_list(bytes, &mut list);
-        solve(&mut list[..n]);
-    }
-}
-
-fn load(text: &[u8], list: &mut [i16]) {
-    match description::load(text, list) {
-        description::Loaded::Points(n) => printing::print_count(b"points", n as u64),
-        description::Loaded::Refused(r) => printing::print_refusal(r),
-    }
-    printing::print_count(b"list", checksum::of_list(list));
-}
-
-fn wide(b: u8) -> usize
-    ensures { λ r. ⌜ r ≤ 255 ⌝ }
-{
-    b as usize
-}
-
-// The number of two bytes, high byte first.
-fn joined(high: u8, low: u8) -> usize {
-    256 * wide(high) + wide(low)
-}
-
-// L: the length of the lent list in two bytes, then a description, through the loader.
-fn run_loader(bytes: &[u8]) {
-    if 2 <= bytes.len() {
-        let room = joined(bytes[0], bytes[1]);
-        let mut list = [12321i16; 8200];
-        if room <= 8200 {
-            load(&bytes[2..], &mut list[..room]);
-        }
-    }
-}
-
-// Of the kind 1 whole numbers, of any other floats; x and y have eight bytes each.
-fn get_drawn(bytes: &[u8], kind: u8) -> DrawnPoint {
-    if kind == 1 {
-        return DrawnPoint::Whole(cases::int_at(bytes, 1), cases::int_at(bytes, 9));
-    }
-    DrawnPoint::Drawn(cases::float_at(bytes, 1), cases::float_at(bytes, 9))
-}
-
-// How many points there are with p behind n of them; 0 where it is refused.
-fn put(p: DrawnPoint, list: &mut [i16], n: usize) -> usize {
-    match drawn_points::append_point(p, list, n) {
-        drawn_points::Appended::Points(k) => {
-            printing::print_count(b"points", k as u64);
-            k
-        }
-        drawn_points::Appended::Refused(r) => {
-            printing::print_refusal(r);
-            0
-        }
-    }
-}
-
-// The engine on the first k points of a list, if there is one.
-fn solve_front(list: &mut [i16], k: usize) {
-    if k == 0 {
-        return;
-    }
-    if k <= 4096 {
-        if 8192 <= list.len() {
-            solve(&mut list[..2 * k]);
-        }
-    }
-}
-
-fn append(p: DrawnPoint, list: &mut [i16], n: usize) {
-    let k = put(p, list, n);
-    printing::print_count(b"list", checksum::of_list(list));
-    solve_front(list, k);
-}
-
-// A: a point, how many points are there in eight bytes, the length of the lent list in two; then the numbers at its front.
-fn run_append(bytes: &[u8]) {
-    if 27 <= bytes.len() {
-        let p = get_drawn(bytes, bytes[0]);
-        let n = cases::word_at(bytes, 17) as usize;
-        let room = joined(bytes[25], bytes[26]);
-        let mut list = [12321i16; 8200];
-        cases::fill_list(&bytes[27..], &mut list);
-        if room <= 8200 {
-            append(p, &mut list[..room], n);
-        }
-    }
-}
-
 fn print_part(sheet: &[u8], start: usize, len: usize) {
     let bytes = sheet::part(sheet, start, len);
     printing::print_pair(b"bytes", bytes.len() as u64, checksum::of_bytes(bytes));
@@ -177,7 +49,7 @@ fn open(sheet: &[u8], k: usize) {
 // S: a glyph number in two bytes, then the sheet.
 fn run_sheet(bytes: &[u8]) {
     if 2 <= bytes.len() {
-        open(&bytes[2..], joined(bytes[0], bytes[1]));
+        open(&bytes[2..], cases::joined(bytes[0], bytes[1]));
     }
 }
 
@@ -249,17 +121,17 @@ fn run_writer(bytes: &[u8]) {
         print_radius(d, t);
         print_preview(d, t);
         let mut buffer = [238u8; 256];
-        let room = wide(bytes[0]);
+        let room = cases::wide(bytes[0]);
         write(d, t, &mut buffer[..room]);
     }
 }
 
 fn run_case(call: u8, bytes: &[u8]) {
     match call {
-        b'D' => run_listing(bytes),
-        b'E' => run_engine(bytes),
-        b'L' => run_loader(bytes),
-        b'A' => run_append(bytes),
+        b'D' => list_cases::run_listing(bytes),
+        b'E' => list_cases::run_engine(bytes),
+        b'L' => list_cases::run_loader(bytes),
+        b'A' => list_cases::run_append(bytes),
         b'S' => run_sheet(bytes),
         b'P' => run_part(bytes),
         b'R' => run_reader(bytes),

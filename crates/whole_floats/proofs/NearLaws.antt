@@ -20,10 +20,11 @@ use lib.Ieee.Fits.{down-pos}
 use lib.Ieee.Scale.{finite}
 use Rattle.answers.specs.Outcome.{Outcome, given, refused, andThen}
 use Rattle.integers.specs.Order.{signed, between}
+use Rattle.integers.proofs.Signs.{abs-signed}
 use Rattle.integers.proofs.Tests.{between-most}
 use Rattle.whole_floats.specs.Whole.{wholeOf}
 use Rattle.whole_floats.specs.Near.{far, near, nearOf}
-use Rattle.whole_floats.proofs.WholeLaws.{abs-signed, given-whole, given-broken}
+use Rattle.whole_floats.proofs.WholeLaws.{given-whole, given-broken}
 use Rattle.whole_floats.proofs.Sizes.{edge, minus-edge, below-edge, beyond-edge, before-edge, far-whole, cut-lt, cut, castable, back-test}
 
 abbrev passed : Outcome ℤ → Outcome ℤ

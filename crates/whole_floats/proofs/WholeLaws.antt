@@ -1,41 +1,25 @@
 -- The whole number that a float stands for.
 --
---   abs-signed, signed-*         : a sign before a size, and before a product
---   not-zero                     : a size above 0
 --   given-whole, given-broken    : `wholeOf` of a finite float, by whether there is a remainder
 --   whole-stands, stands-whole   : `wholeOf v` gives z exactly where v stands for z
 --   whole-or-broken              : and is 11 otherwise
 use mathlib.Core.Path.{_≡_, refl, sym, ap, _∙_}
-use mathlib.Core.Logic.{_≢_, _⊎_, inl, inr}
+use mathlib.Core.Logic.{_⊎_, inl, inr}
 use mathlib.Core.Bool.{Bool, true, false, not}
-use Prim.Native.Nat.{ℕ, _+_, _*_, _/_, _%_, _<_}
+use Prim.Native.Nat.{ℕ, _+_, _*_, _/_, _%_}
 use native.Mathlib.Nat.{add-zero, div-add-mod', mul-div-cancel, mul-mod-left}
-use native.Mathlib.Omega.{arith}
 use borrow.Author.Tests.{eqb-true, eq-eqb, ne-eqb, not-false}
 use lib.Dec.{eqb}
-use lib.IntN.{ℤ, pos, negℤ, natAbs, _*ℤ_, pos-*ℤ-pos, *ℤ-comm}
+use lib.IntN.{ℤ, pos, natAbs, _*ℤ_, *ℤ-comm}
 use lib.Ieee.{Float, nan, inf, fin, up, down}
 use lib.Ieee.Fits.{down-pos}
 use Rattle.answers.specs.Outcome.{given, refused, refuseIf}
 use Rattle.answers.proofs.OutcomeLaws.{not-given, not-refused, given-same}
 use Rattle.integers.specs.Order.{signed}
-use Rattle.integers.proofs.Abs.{abs-neg, abs-*}
-use Rattle.integers.proofs.Laws.{neg-*}
+use Rattle.integers.proofs.Abs.{abs-*}
+use Rattle.integers.proofs.Signs.{abs-signed, signed-*, not-zero}
 use Rattle.integers.proofs.Order.{≡-cancel}
 use Rattle.whole_floats.specs.Whole.{StandsFor, wholeOf}
-
--- ---- signs
-
-pub abs-signed : (s : Bool) (n : ℕ) → natAbs (signed s n) ≡ n
-abs-signed true n = abs-neg (pos n)
-abs-signed false n = refl
-
-pub signed-* : (s : Bool) (a b : ℕ) → signed s (a * b) ≡ signed s a *ℤ pos b
-signed-* true a b = ap negℤ (sym (pos-*ℤ-pos a b)) ∙ sym (neg-* (pos a) (pos b))
-signed-* false a b = sym (pos-*ℤ-pos a b)
-
-pub not-zero : (D : ℕ) → 0 < D → pos D ≢ pos 0
-not-zero D h e = let z : D ≡ 0 = ap natAbs e in omega arith
 
 -- ---- with and without a remainder
 

@@ -1,10 +1,10 @@
--- `vectors::run_engine` is safe and ends: the part lent has as many numbers as the case.
+-- `list_cases::run_engine` is safe and ends: the part lent has as many numbers as the case.
 use mathlib.Core.Path.{sym}
 use native.Mathlib.Omega.{arith}
 use lib.Seq.{length-take-le}
 use borrow.Author.Needs.{needs}
-use Rattle.vectors.proofs.run_engine.Statement.{statement}
-use Rattle.vectors.proofs.run_engine.Tie as tie
+use Rattle.list_cases.proofs.run_engine.Statement.{statement}
+use Rattle.list_cases.proofs.run_engine.Tie as tie
 
 slice-aggregate-fill-list : tie.Need-slice-aggregate-fill-list
 slice-aggregate-fill-list c = search needs

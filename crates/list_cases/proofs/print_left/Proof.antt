@@ -1,10 +1,10 @@
--- `vectors::print_left` is safe and ends: the part lent is no longer than the list.
+-- `list_cases::print_left` is safe and ends: the part lent is no longer than the list.
 use mathlib.Core.Path.{sym}
 use native.Mathlib.Omega.{arith}
 use lib.Seq.{length-take-le}
 use borrow.Author.Needs.{needs}
-use Rattle.vectors.proofs.print_left.Statement.{statement}
-use Rattle.vectors.proofs.print_left.Tie as tie
+use Rattle.list_cases.proofs.print_left.Statement.{statement}
+use Rattle.list_cases.proofs.print_left.Tie as tie
 
 slice-aggregate-load : tie.Need-slice-aggregate-load
 slice-aggregate-load c = search needs

@@ -1,10 +1,10 @@
--- `vectors::solve_front` is safe and ends: the list has room for the points.
+-- `list_cases::solve_front` is safe and ends: the list has room for the points.
 use mathlib.Core.Path.{sym}
 use native.Mathlib.Omega.{arith}
 use lib.Seq.{length-take-le}
 use borrow.Author.Needs.{needs}
-use Rattle.vectors.proofs.solve_front.Statement.{statement}
-use Rattle.vectors.proofs.solve_front.Tie as tie
+use Rattle.list_cases.proofs.solve_front.Statement.{statement}
+use Rattle.list_cases.proofs.solve_front.Tie as tie
 
 returns : tie.Need-returns
 returns c = search needs

@@ -1,10 +1,10 @@
--- `vectors::run_loader` is safe and ends: the part lent is no longer than the list.
+-- `list_cases::run_loader` is safe and ends: the part lent is no longer than the list.
 use mathlib.Core.Path.{sym}
 use native.Mathlib.Omega.{arith}
 use lib.Seq.{length-take-le}
 use borrow.Author.Needs.{needs}
-use Rattle.vectors.proofs.run_loader.Statement.{statement}
-use Rattle.vectors.proofs.run_loader.Tie as tie
+use Rattle.list_cases.proofs.run_loader.Statement.{statement}
+use Rattle.list_cases.proofs.run_loader.Tie as tie
 
 shared-slice-read-joined : tie.Need-shared-slice-read-joined
 shared-slice-read-joined c = search needs
