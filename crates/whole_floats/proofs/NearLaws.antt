@@ -1,11 +1,11 @@
 -- What the reader of a float answers.
 --
---   near-signed      : a number that is not far is written as itself
---   near-whole       : the answer for a float below 2^53 in size with no fraction
---   near-broken      : for a finite one with a fraction
---   near-far         : for a float of 2^53 or more
---   near-not-finite  : for a NaN or an infinity
---   near-between     : no range within 2^53 tells z from near z
+--   near-whole, near-broken, near-far : the answer for a finite float, by its size and by whether it has a fraction
+--   near-not-finite                   : for a NaN or an infinity
+--   within-i64, back-in-float         : between the edges the cast to an i64 is taken, and the cast back
+--   back-same, back-other             : and the answer, by whether the cast back gives the float
+--   near-beyond                       : beyond them
+--   near-between                      : no range within 2^53 tells z from near z
 use mathlib.Core.Path.{_≡_, refl, sym, ap, _∙_, subst}
 use mathlib.Core.Logic.{_⊎_, inl, inr}
 use mathlib.Core.Bool.{Bool, true, false, cond, _||_, true≢false}
@@ -30,20 +30,20 @@ use Rattle.whole_floats.proofs.Sizes.{edge, minus-edge, below-edge, bey
 abbrev passed : Outcome ℤ → Outcome ℤ
 passed o = andThen o (λ z. given (near z))
 
-pub near-signed : (s : Bool) (c : ℕ) → c < far → near (signed s c) ≡ signed s c
+near-signed : (s : Bool) (c : ℕ) → c < far → near (signed s c) ≡ signed s c
 near-signed s c h = rw (abs-signed s c, lt-ltb c far h)
 
 far-signed : (s : Bool) (c : ℕ) → far ≤ c → near (signed s c) ≡ pos far
 far-signed s c h = rw (abs-signed s c, le-ltb c far h)
 
 module _ (s : Bool) (m : ℕ) (e : ℤ) where
-  pub near-whole : m * up e < far * down e → m * up e % down e ≡ 0 → nearOf (fin s m e) ≡ given (signed s (m * up e / down e))
+  near-whole : m * up e < far * down e → m * up e % down e ≡ 0 → nearOf (fin s m e) ≡ given (signed s (m * up e / down e))
   near-whole h z = ap passed (given-whole s m e z) ∙ ap given (near-signed s (m * up e / down e) (cut-lt m e h))
 
-  pub near-broken : (m * up e % down e ≡ 0 → ⊥) → nearOf (fin s m e) ≡ refused 11
+  near-broken : (m * up e % down e ≡ 0 → ⊥) → nearOf (fin s m e) ≡ refused 11
   near-broken h = ap passed (given-broken s m e h)
 
-  pub near-far : T (fits binary64 (fin s m e)) → far * down e ≤ m * up e → nearOf (fin s m e) ≡ given (pos far)
+  near-far : T (fits binary64 (fin s m e)) → far * down e ≤ m * up e → nearOf (fin s m e) ≡ given (pos far)
   near-far t h = ap passed (given-whole s m e (far-whole s m e t h)) ∙ ap given (far-signed s (m * up e / down e) large)
     where
       large : far ≤ m * up e / down e
