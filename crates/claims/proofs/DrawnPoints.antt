@@ -8,10 +8,9 @@ use mathlib.Core.Path.{_≡_, refl, sym, ap, ap₂, _∙_}
 use mathlib.Core.Logic.{_↔_, _⊎_, inl, inr}
 use mathlib.Core.Bool.{Bool, true, false, not}
 use mathlib.Core.List.{List, [], _∷_, _++_}
-use Prim.Native.Nat.{ℕ, suc, _+_, _*_, _/_, _%_, _≤_, _<_}
+use Prim.Native.Nat.{ℕ, suc, _*_, _/_, _%_, _≤_, _<_}
 use native.Mathlib.Nat.{lt-of-not-le, not-le-of-lt}
 use native.Mathlib.Numerals.{add-one}
-use native.Mathlib.Omega.{arith}
 use borrow.Author.Tests.{ltb-true, ltb-false, lt-ltb, le-ltb, eqb-false}
 use lib.Dec.{leb, ltb, eqb}
 use lib.IntN.{ℤ, pos, _*ℤ_}
@@ -37,7 +36,7 @@ use Rattle.whole_floats.proofs.WholeLaws.{whole-stands, stands-whole, whole-or-
 use Rattle.drawn_points.specs.declared.DrawnPoint.{DrawnPoint}
 use Rattle.drawn_points.specs.declared.DrawnPoint.the-variants.{Whole, Drawn}
 use Rattle.drawn_points.specs.Appending.{placeOf, takenOf, appendOf, listAfter, putBehind}
-use Rattle.drawn_points.proofs.Behind.{taken-place, put-behind, front-behind}
+use Rattle.drawn_points.proofs.Behind.{taken-place, has-room, put-behind, front-behind}
 use Rattle.validity.specs.Valid.{valid}
 use Rattle.radius.specs.Radius.{radiusOf}
 use Rattle.preview.specs.declared.Preview.{Preview}
@@ -46,7 +45,7 @@ use Rattle.record_writer.specs.Layout.{recordLength}
 use Rattle.record_writer.specs.Writing.{writeOf, bufferAfter}
 use Rattle.rules.specs.Row.{AllKept}
 use Rattle.rules.specs.Rules.{Names, appendRow}
-use Rattle.rules.proofs.Drawings.{names-place, named-once}
+use Rattle.rules.proofs.Drawings.{paired, names-place, named-once}
 use Rattle.rules.proofs.Calls as calls
 use Rattle.claims.specs.Values.{bits}
 use Rattle.claims.specs.Demand3.{Answers, answersFor}
@@ -114,10 +113,6 @@ answers-same e b c r =
 
 -- ---- two points of equal value
 
--- n below 4,096 leaves room for one more point
-room : {n k : ℕ} → (8192 ≤ k) × (n < 4096) → 2 * n + 2 ≤ k
-room h = let l = h .0 in let m = h .1 in omega arith
-
 -- a float of the same value stands for the same number
 stands-same : (v w : Float) (z : ℤ) → SameNumber v w → StandsFor v z → StandsFor w z
 stands-same nan w z e h = absurd e
@@ -151,7 +146,7 @@ place-same (Whole x y) (Whole u v) e = ap given (point-path (e .0) (e .1))
 place-same (Whole x y) (Drawn u v) e = sym (names-place (Drawn u v) (record { x = x; y = y }) e)
 place-same (Drawn x y) (Whole u v) e = names-place (Drawn x y) (record { x = u; y = v }) e
 place-same (Drawn x y) (Drawn u v) e =
-    ap₂ (λ (o q : Outcome ℤ). andThen o (λ a. andThen q (λ b. given (record { x = a; y = b })))) (whole-same x u (e .0)) (whole-same y v (e .1))
+    ap₂ paired (whole-same x u (e .0)) (whole-same y v (e .1))
 
 module _ (p q : DrawnPoint) (equal : EqualValue p q) (n : ℕ) (l m : List ℤ) (long : (8192 ≤ length l) ↔ (8192 ≤ length m)) where
   taken-same : takenOf p l n ≡ takenOf q m n
@@ -168,7 +163,8 @@ module _ (p q : DrawnPoint) (equal : EqualValue p q) (n : ℕ) (l m : List ℤ) 
     where
       front : (r : DrawnPoint) (s : List ℤ) → takenOf r s n ≡ given d → take (2 * suc n) (listAfter r s n) ≡ take (2 * n) s ++ (d .x ∷ d .y ∷ [])
       front r s t =
-          ap (λ (o : Outcome Point). take (2 * suc n) (putBehind o s n)) t ∙ front-behind s n d (room (taken-place r s n d t .1))
+          let place = taken-place r s n d t in
+          ap (λ (o : Outcome Point). take (2 * suc n) (putBehind o s n)) t ∙ front-behind s n d (has-room (place .1 .0) (place .1 .1))
 
   led-same : take (2 * n) l ≡ take (2 * n) m → (a b : List ℕ) → (recordLength ≤ length a) ↔ (recordLength ≤ length b) → led p l n a ≡ led q m n b
   unfolding led
@@ -206,7 +202,7 @@ module _ (p : DrawnPoint) (l : List ℤ) (n : ℕ) where
       let taken = number-is (calls.append p l n .taken .1 kept .1) in
       let d = taken .0 in
       let place = taken-place p l n d (taken .1 .0) in
-      let space = room (place .1) in
+      let space = has-room (place .1 .0) (place .1 .1) in
       let after : listAfter p l n ≡ take (2 * n) l ++ c .x ∷ c .y ∷ drop (2 * suc n) l =
       ap (λ (o : Outcome Point). putBehind o l n) (taken .1 .0 ∙ ap given (named-once p d c (place .0) is)) in (
         after,

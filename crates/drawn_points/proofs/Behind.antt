@@ -6,12 +6,14 @@
 --   append-refused                           : a refused call leaves the list
 --   taken-place                              : a point that is taken is the one that p names
 --   front-behind                             : the first n + 1 points afterwards
+--   has-room                                 : n below 4,096 leaves room for one more point
 --   put-behind                               : the point written into the list stands behind the first n points, and the rest stays
 use mathlib.Core.Path.{_≡_, refl, sym, ap, ap₂, _∙_}
 use mathlib.Core.Bool.{Bool, true, false, not}
 use mathlib.Core.List.{List, [], _∷_, _++_, append-assoc}
 use Prim.Native.Nat.{ℕ, suc, _+_, _*_, _≤_, _<_}
 use native.Mathlib.Numerals.{add-one}
+use native.Mathlib.Omega.{arith}
 use borrow.Author.Tests.{lt-ltb, le-ltb, le-leb, lt-leb, ltb-false, leb-false}
 use lib.Dec.{leb, ltb}
 use lib.IntN.{ℤ}
@@ -82,6 +84,9 @@ module _ (p : DrawnPoint) (list : List ℤ) (n : ℕ) where
       go long (given d) e =
           let few = not-refused (leb 4096 n) 4 (not-refused (not (inEmBox d)) 3 e .1) in
           (few .1, (long, leb-false 4096 n (few .0)))
+
+pub has-room : {n k : ℕ} → 8192 ≤ k → n < 4096 → 2 * n + 2 ≤ k
+has-room h l = omega arith
 
 pub put-behind : (l : List ℤ) (n : ℕ) (c : Point) → 2 * n + 2 ≤ length l → putAt l n c ≡ take (2 * n) l ++ c .x ∷ c .y ∷ drop (2 * suc n) l
 put-behind l n c h =

@@ -1,5 +1,6 @@
 -- The point that a drawing program names.
 --
+--   paired                   == two coordinates, one after the other, as `placeOf` has them
 --   place-names, names-place : `placeOf p` gives c exactly where p names c
 --   named-once               : a point names one point
 --   placed                   : the call's check 11 goes by its rule
@@ -21,8 +22,7 @@ use Rattle.rules.specs.Row.{_unless_, GoesBy}
 use Rattle.rules.specs.Rules.{Names}
 use Rattle.rules.proofs.RowLaws.{row-end, row-step, rule-kept}
 
--- two coordinates, one after the other
-abbrev paired : Outcome ℤ → Outcome ℤ → Outcome Point
+abbrev pub paired : Outcome ℤ → Outcome ℤ → Outcome Point
 paired o q = andThen o (λ a. andThen q (λ b. given (record { x = a; y = b })))
 
 pub place-names : (p : DrawnPoint) (c : Point) → placeOf p ≡ given c → Names p c

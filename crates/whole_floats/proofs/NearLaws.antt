@@ -8,7 +8,7 @@
 --   near-between                      : no range within 2^53 tells z from near z
 use mathlib.Core.Path.{_≡_, refl, sym, ap, _∙_, subst}
 use mathlib.Core.Logic.{_⊎_, inl, inr}
-use mathlib.Core.Bool.{Bool, true, false, cond, _||_, true≢false}
+use mathlib.Core.Bool.{Bool, true, false, cond, true≢false}
 use Prim.Native.Nat.{ℕ, _+_, _*_, _/_, _%_, _^_, _≤_, _<_}
 use native.Mathlib.Omega.{arith}
 use native.Mathlib.Nat.{le-refl, le-of-lt, le-div-iff-mul-le}
@@ -66,9 +66,6 @@ not-nan : lt nan edge ≡ true → ⊥
 unfolding lt
 not-nan l = true≢false (sym l)
 
-either : (a b : Bool) → T a → T (a || b)
-either true b t = tt
-
 -- the cast to an i64 is taken
 pub within-i64 : (v : Float) → lt v edge ≡ true → lt minus-edge v ≡ true → T (le (fin true 1 (pos 63)) v) × T (lt v (fin false 1 (pos 63)))
 unfolding lt le eq
@@ -77,13 +74,13 @@ within-i64 (inf s) l h = absurd (not-infinite s l h)
 within-i64 (fin false m e) l h =
     let small = below-edge m e false l h in
     let d = down-pos e in (
-      either (ltb 0 (2 ^ 63 * down e + m * up e * 1)) _ (lt→ltb 0 (2 ^ 63 * down e + m * up e * 1) (omega arith)),
+      rw (lt-ltb 0 (2 ^ 63 * down e + m * up e * 1) (omega arith)) tt,
       lt→ltb (m * up e * 1) (2 ^ 63 * down e) (omega arith),
     )
 within-i64 (fin true m e) l h =
     let small = below-edge m e true l h in
     let d = down-pos e in (
-      either (ltb (m * up e * 1) (2 ^ 63 * down e)) _ (lt→ltb (m * up e * 1) (2 ^ 63 * down e) (omega arith)),
+      rw (lt-ltb (m * up e * 1) (2 ^ 63 * down e) (omega arith)) tt,
       lt→ltb 0 (m * up e * 1 + 2 ^ 63 * down e) (omega arith),
     )
 

@@ -21,6 +21,7 @@ use lib.Ieee.Back.{round-whole}
 use lib.Ieee.Exact.{HasValue}
 use lib.Ieee.Fits.{down-pos, and-l, and-r}
 use Rattle.integers.specs.Order.{signed}
+use Rattle.integers.proofs.Tests.{last-test}
 use Rattle.whole_floats.specs.Near.{far}
 
 abbrev pub edge : Float
@@ -114,10 +115,6 @@ signs false t c A e z = rw e
 signs true t zero A e z = rw (e, eq-eqb A 0 (z refl))
 signs true t (suc c) A e z = rw e
 
-plain : (a b : Bool) → b ≡ true → a && b ≡ a
-plain true b h = h
-plain false b h = refl
-
 -- A / k and B / k are equal exactly where A and B are
 scaled : (A B k : ℕ) → 0 < k → eqb (A * k) (B * k) ≡ eqb A B
 scaled A B k h = go (eqb A B) refl
@@ -135,7 +132,8 @@ same-value (fin t n d) s c m e v =
     let size : n * up d ≡ c * down d = sym (mul-one (n * up d)) ∙ v .1 in
     let over : A ≡ c * down e * down d = ap (λ (x : ℕ). x * down e) size ∙ mul-right-comm c (down d) (down e) in
     let none : c ≡ 0 → A ≡ 0 = λ z. over ∙ ap (λ (x : ℕ). x * down e * down d) z ∙ ap (λ (x : ℕ). x * down d) (zero-mul (down e)) ∙ zero-mul (down d) in
-    plain (eqb A (m * up e * down d)) (Bool·beq t s || eqb A 0) (signs s t c A (v .0) none)
+    ap (λ (b : Bool). eqb A (m * up e * down d) && b) (signs s t c A (v .0) none)
+    ∙ sym (last-test (eqb A (m * up e * down d)))
     ∙ ap (λ (x : ℕ). eqb x (m * up e * down d)) over
     ∙ scaled (c * down e) (m * up e) (down d) (down-pos d)
 

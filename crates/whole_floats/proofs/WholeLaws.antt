@@ -6,8 +6,8 @@
 use mathlib.Core.Path.{_≡_, refl, sym, ap, _∙_}
 use mathlib.Core.Logic.{_⊎_, inl, inr}
 use mathlib.Core.Bool.{Bool, true, false, not}
-use Prim.Native.Nat.{ℕ, _+_, _*_, _/_, _%_}
-use native.Mathlib.Nat.{add-zero, div-add-mod', mul-div-cancel, mul-mod-left}
+use Prim.Native.Nat.{ℕ, _*_, _/_, _%_}
+use native.Mathlib.Nat.{mul-div-cancel, mul-mod-left, div-mul-cancel, dvd-of-mod-eq-zero}
 use borrow.Author.Tests.{eqb-true, eq-eqb, ne-eqb, not-false}
 use lib.Dec.{eqb}
 use lib.IntN.{ℤ, pos, natAbs, _*ℤ_, *ℤ-comm}
@@ -34,9 +34,6 @@ module _ (s : Bool) (m : ℕ) (e : ℤ) where
 
 -- ---- by the float's value
 
-whole-by : (M D : ℕ) → M % D ≡ 0 → M / D * D ≡ M
-whole-by M D h = sym (add-zero (M / D * D)) ∙ ap (λ (r : ℕ). M / D * D + r) (sym h) ∙ div-add-mod' M D
-
 pub whole-stands : (v : Float) (z : ℤ) → wholeOf v ≡ given z → StandsFor v z
 unfolding wholeOf
 whole-stands nan z h = not-given h
@@ -46,7 +43,7 @@ whole-stands (fin s m e) z h =
     let D = down e in
     let test = not-refused (not (eqb (M % D) 0)) 11 h in
     let none : M % D ≡ 0 = eqb-true (M % D) 0 (not-false (eqb (M % D) 0) (test .0)) in
-    ap (signed s) (sym (whole-by M D none)) ∙ signed-* s (M / D) D ∙ ap (λ (x : ℤ). x *ℤ pos D) (given-same (test .1))
+    ap (signed s) (sym (div-mul-cancel D (dvd-of-mod-eq-zero D none))) ∙ signed-* s (M / D) D ∙ ap (λ (x : ℤ). x *ℤ pos D) (given-same (test .1))
 
 pub stands-whole : (v : Float) (z : ℤ) → StandsFor v z → wholeOf v ≡ given z
 stands-whole nan z h = absurd h

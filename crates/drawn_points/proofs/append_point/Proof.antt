@@ -2,11 +2,9 @@
 use mathlib.Core.Path.{_≡_, sym, ap, _∙_}
 use borrow.Author.Needs.{needs}
 use native.Mathlib.Numerals.{add-one}
-use native.Mathlib.Omega.{arith}
-use Prim.Native.Nat.{ℕ, _+_, _*_, _≤_, _<_}
 use Rattle.answers.specs.Outcome.{given}
 use Rattle.drawn_points.specs.Judging.{judged, verdict}
-use Rattle.drawn_points.proofs.Behind.{taken-short, taken-refused, taken-full, taken-given, refused-after, given-after, put-behind}
+use Rattle.drawn_points.proofs.Behind.{taken-short, taken-refused, taken-full, taken-given, refused-after, given-after, has-room, put-behind}
 use Rattle.drawn_points.proofs.append_point.Statement.{statement}
 use Rattle.drawn_points.proofs.append_point.Tie as tie
 
@@ -44,9 +42,6 @@ enum-known-found-2 c = search needs
 same-length : tie.Need-same-length
 same-length c = search needs
 
-room : {n k : ℕ} → n < 4096 → 8192 ≤ k → 2 * n + 2 ≤ k
-room h l = omega arith
-
 returns-3 : tie.Need-returns-3
 returns-3 c =
     let few = c .before .before .before in
@@ -55,7 +50,7 @@ returns-3 c =
     let a = long .before .before .args in
     let q = found .found .given .0 .0 in
     let is = given-after (a .p) (a .list .now) (a .n) q (taken-given (a .p) (a .list .now) (a .n) (long .if1 .left) q (inside found) (few .if2 .left)) in
-    (ap given (add-one (a .n)) ∙ is .0, c .before .put-point .ensures ∙ put-behind (a .list .now) (a .n) q (room (few .if2 .left) (long .if1 .left)) ∙ is .1)
+    (ap given (add-one (a .n)) ∙ is .0, c .before .put-point .ensures ∙ put-behind (a .list .now) (a .n) q (has-room (long .if1 .left) (few .if2 .left)) ∙ is .1)
 
 returns-4 : tie.Need-returns-4
 returns-4 c =
