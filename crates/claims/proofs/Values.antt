@@ -2,6 +2,7 @@
 --
 --   glyph-part, part-glyph  : the bytes of glyph k are its part of the sheet
 --   radius-least            : the whole radius is least
+--   least-same              : and only one number is
 --   right, right-same       : the preview is right, and no other is
 --   bits-back               : its bits are those of its values
 --   all-values              : Values
@@ -12,7 +13,7 @@ use mathlib.Core.List.{List, [], _∷_, _++_}
 use Prim.Native.Nat.{ℕ, _*_, _≤_, _<_}
 use native.Mathlib.Nat.{le-antisymm, le-trans, le-of-eq, mul-le-mul-right, lt-of-not-le, le-of-suc-le-suc}
 use native.Mathlib.Omega.{arith}
-use borrow.Author.Tests.{le-leb, leb-true}
+use borrow.Author.Tests.{lt-ltb, ltb-true}
 use lib.Dec.{T}
 use lib.IntN.{ℤ, pos, natAbs, _*ℤ_}
 use lib.ListN.{length, take, drop, take-append-drop}
@@ -42,7 +43,7 @@ use Rattle.validity.specs.Valid.{valid}
 use Rattle.record_writer.specs.Bytes.{recordBytes}
 use Rattle.record_writer.specs.Writing.{leftBy}
 use Rattle.record_reader.specs.Reading.{readOf}
-use Rattle.radius.specs.Radius.{reaches, wholeRadius, radiusOf}
+use Rattle.radius.specs.Radius.{wholeRadius, radiusOf}
 use Rattle.record_reader.proofs.RoundTrip.{read-written, written-again}
 use Rattle.radius.proofs.RadiusLaws.{radius-is-least}
 use Rattle.validity.proofs.ValidLaws.{valid-disk}
@@ -111,13 +112,13 @@ after-glyph s k = row-through (glyphOf s k) (glyphBytes s k) (calls.sheet s k) (
 
 radius-least : (d : Disk) → 1 ≤ d .e → LeastRadius d (wholeRadius d)
 radius-least d h = let l = radius-is-least d h in record {
-  reaches = leb-true (d .s) (wholeRadius d * wholeRadius d * (d .e * d .e)) (l .passes);
+  clears = ltb-true (d .s) (wholeRadius d * wholeRadius d * (d .e * d .e)) (l .passes);
   least = λ q r. le-of-suc-le-suc
-      (lt-of-not-le (λ (below : q < wholeRadius d). true≢false (sym (le-leb (d .s) (q * q * (d .e * d .e)) r) ∙ l .first q below)));
+      (lt-of-not-le (λ (below : q < wholeRadius d). true≢false (sym (lt-ltb (d .s) (q * q * (d .e * d .e)) r) ∙ l .first q below)));
 }
 
-least-same : (d : Disk) (r q : ℕ) → LeastRadius d r → LeastRadius d q → r ≡ q
-least-same d r q a b = le-antisymm (a .least q (b .reaches)) (b .least r (a .reaches))
+pub least-same : (d : Disk) (r q : ℕ) → LeastRadius d r → LeastRadius d q → r ≡ q
+least-same d r q a b = le-antisymm (a .least q (b .clears)) (b .least r (a .clears))
 
 radius : (d : Disk) (ps : List Point) (r : ℕ) → (radiusOf d ps ≡ given r) ↔ (Recordable d ps × LeastRadius d r)
 radius d ps r = (

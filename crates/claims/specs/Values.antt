@@ -4,7 +4,7 @@
 --
 --   glyphBytes s k     == the calls `glyph` and `part`, one after the other: glyph k of the sheet s, as its part of the sheet
 --   IsPart s k bs      == bs is the part of s that pair k of its directory says
---   LeastRadius d r    == r is the least whole number with r²E² at least S
+--   LeastRadius d r    == r is the least whole number with r²E² greater than S
 --   RoundedOnce z e v  == v is z/e, one division rounded once of numbers converted without loss, and a finite number
 --   PreviewIsRight d p == p is the preview of the disk d: no value is a NaN, each centre value is the fraction itself rounded once, R is exact
 --   bits p             == the bits of a preview's three values
@@ -14,7 +14,7 @@ use mathlib.Core.Path.{_≡_}
 use mathlib.Core.Logic.{_↔_}
 use mathlib.Core.Bool.{false}
 use mathlib.Core.List.{List, [], _∷_, _++_}
-use Prim.Native.Nat.{ℕ, _*_, _≤_}
+use Prim.Native.Nat.{ℕ, _*_, _≤_, _<_}
 use lib.Dec.{T}
 use lib.IntN.{ℤ, pos, natAbs}
 use lib.ListN.{length, drop}
@@ -50,10 +50,10 @@ pub record IsPart (s : List ℕ) (k : ℕ) (bs : List ℕ) : Type 0 where
 
 -- ---- the whole radius (01: the cutting radius)
 
--- "the least whole number R, 0 or more, with R²E² at least S"
+-- "the least whole R with R²E² greater than S" (02, item 3; what it says of the points: CutKeepsOff.antt)
 pub record LeastRadius (d : Disk) (r : ℕ) : Type 0 where
-  pub reaches : d .s ≤ r * r * (d .e * d .e)
-  pub least : (q : ℕ) → d .s ≤ q * q * (d .e * d .e) → r ≤ q
+  pub clears : d .s < r * r * (d .e * d .e)
+  pub least : (q : ℕ) → d .s < q * q * (d .e * d .e) → r ≤ q
 
 -- ---- the preview
 
@@ -99,7 +99,7 @@ pub record Values : Type 0 where
   pub writer :
       (d : Disk) (ps : List Point) (b : List ℕ) → writeOf d ps b ≡ given tt
       → (length (recordBytes d ps) ≡ 44) × (bufferAfter d ps b ≡ recordBytes d ps ++ drop 44 b)
-  -- "The cutting radius is the least whole number R, 0 or more, with R²E² at least S"
+  -- "the cutting radius is the least whole R with R²E² greater than S" (02, item 3)
   pub radius : (d : Disk) (ps : List Point) (r : ℕ) → (radiusOf d ps ≡ given r) ↔ (Recordable d ps × LeastRadius d r)
   -- "The preview is three f64 values: .."
   pub preview : (d : Disk) (ps : List Point) (p : Preview) → (previewOf d ps ≡ given p) ↔ (Recordable d ps × PreviewIsRight d p)

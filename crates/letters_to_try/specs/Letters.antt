@@ -1,6 +1,6 @@
--- The letters of document 01 that are marked (m), A to K, as one list. proofs/Letters.antt shows that each holds.
+-- The letters of document 01 that are marked (m), A to K, as one list, with R by document 02, item 3. proofs/Letters.antt shows that each holds.
 --
---   Letter        == what document 01 gives for a letter: its list, X Y E S, the rim set, R, and the tests and the list left where it gives them
+--   Letter        == what the papers give for a letter: its list, X Y E S, the rim set, R, and the tests and the list left where they give them
 --   Holds c       == the engine answers so for the list, leaves the list so, and the whole radius is R
 --   letters       == A to K
 --   AllHold cs    == each of the letters cs holds
@@ -54,7 +54,7 @@ letters =
       list = at 0 0 ∷ [];
       disk = disk 0 0 1 0;
       support = at 0 0 ∷ [];
-      radius = 0;
+      radius = 1;
       tests = none;
       left = none;
     }
@@ -72,7 +72,7 @@ letters =
       list = at 0 0 ∷ at 4 0 ∷ [];
       disk = disk 2 0 1 4;
       support = at 0 0 ∷ at 4 0 ∷ [];
-      radius = 2;
+      radius = 3;
       tests = some 3;
       left = some (at 4 0 ∷ at 0 0 ∷ []);
     }
@@ -90,7 +90,7 @@ letters =
       list = at 0 0 ∷ at 6 0 ∷ at 0 8 ∷ [];
       disk = disk 3 4 1 25;
       support = at 0 8 ∷ at 6 0 ∷ [];
-      radius = 5;
+      radius = 6;
       tests = none;
       left = none;
     }
@@ -108,7 +108,7 @@ letters =
       list = at 0 0 ∷ at 10 0 ∷ at 5 1 ∷ [];
       disk = disk 5 0 1 25;
       support = at 0 0 ∷ at 10 0 ∷ [];
-      radius = 5;
+      radius = 6;
       tests = none;
       left = none;
     }
@@ -117,7 +117,7 @@ letters =
       list = at 7 7 ∷ at 7 7 ∷ at 7 7 ∷ [];
       disk = disk 7 7 1 0;
       support = at 7 7 ∷ [];
-      radius = 0;
+      radius = 1;
       tests = none;
       left = none;
     }
@@ -135,7 +135,7 @@ letters =
       list = at 0 0 ∷ at 2 0 ∷ at 4 0 ∷ [];
       disk = disk 2 0 1 4;
       support = at 0 0 ∷ at 4 0 ∷ [];
-      radius = 2;
+      radius = 3;
       tests = some 7;
       left = some (at 4 0 ∷ at 0 0 ∷ at 2 0 ∷ []);
     }

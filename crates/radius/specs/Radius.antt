@@ -1,16 +1,16 @@
--- The whole radius of a disk (01: the cutting radius).
+-- The whole radius of a disk (01: the cutting radius; its rule: 02, item 3).
 --
---   reaches d r     == a circle of radius r about d's centre reaches d's boundary: r²E² is at least S
---   wholeRadius d   == the least whole number that reaches
---   maxRadius       == a number that reaches wherever S/E² keeps to its limit: 707² is below it, 708² is not
+--   clears d r      == the circle of radius r about d's centre keeps clear of d and of every point in it: r²E² is greater than S
+--   wholeRadius d   == the least whole number whose circle does
+--   maxRadius       == one whose circle does wherever S/E² keeps to its limit: 707² is not above that limit, 708² is
 --   radiusOf d ps   == what the call answers: the refusal due first, or the radius
 --   outcome r       == document 01's number and value of each answer
 --
--- Where E is at least 1 the number S reaches, so the search of `least` need not go further; proofs/RadiusLaws says so.
+-- Where E is at least 1 the circle of radius S + 1 keeps clear, so the search of `least` need not go further; proofs/RadiusLaws says so.
 use mathlib.Core.Bool.{Bool, not}
 use mathlib.Core.List.{List}
-use Prim.Native.Nat.{ℕ, _*_}
-use lib.Dec.{leb}
+use Prim.Native.Nat.{ℕ, suc, _*_}
+use lib.Dec.{ltb}
 use Rattle.answers.specs.Outcome.{Outcome, given, refused, numberOf, refuseIf}
 use Rattle.geometry.specs.declared.Point.{Point}
 use Rattle.geometry.specs.declared.Disk.{Disk}
@@ -19,11 +19,11 @@ use Rattle.integers.specs.Least.{least}
 use Rattle.radius.specs.declared.Radius.{Radius}
 use Rattle.radius.specs.declared.Radius.the-variants.{Whole, Refused}
 
-abbrev pub reaches : Disk → ℕ → Bool
-reaches d r = leb (d .s) (r * r * (d .e * d .e))
+abbrev pub clears : Disk → ℕ → Bool
+clears d r = ltb (d .s) (r * r * (d .e * d .e))
 
 abbrev pub wholeRadius : Disk → ℕ
-wholeRadius d = least (reaches d) (d .s)
+wholeRadius d = least (clears d) (suc (d .s))
 
 abbrev pub maxRadius : ℕ
 maxRadius = 708

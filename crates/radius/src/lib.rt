@@ -1,15 +1,15 @@
-// The whole radius of a disk (01: the cutting radius).
+// The whole radius of a disk (01: the cutting radius; its rule: 02, item 3).
 ghost use mathlib.Core.Path.{_≡_};
 ghost use mathlib.Core.Bool.{true};
 ghost use Prim.Native.Nat.{_≤_};
 ghost use Rattle.geometry.specs.Plane.{members};
 ghost use Rattle.validity.specs.Valid.{validDisk};
-ghost use Rattle.radius.specs.Radius.{reaches, wholeRadius, maxRadius, radiusOf, outcome};
+ghost use Rattle.radius.specs.Radius.{clears, wholeRadius, maxRadius, radiusOf, outcome};
 use answers::Refusal;
 use geometry::Disk;
 use geometry::SupportSet;
 
-// No radius is larger: its square is at least the largest S/E².
+// No radius is larger: its square is above the largest S/E².
 const MAX_RADIUS: u64 = 708;
 
 pub enum Radius {
@@ -17,17 +17,17 @@ pub enum Radius {
     Refused(Refusal),
 }
 
-// Whether a circle of radius r about d's centre reaches d's boundary.
-fn is_reaching(d: Disk, r: u64) -> bool
+// Whether the circle of radius r about d's centre keeps clear of d.
+fn is_clear(d: Disk, r: u64) -> bool
     requires { ⌜ validDisk d ≡ true ⌝ }
     requires { ⌜ r ≤ maxRadius ⌝ }
-    ensures { λ b. ⌜ b ≡ reaches d r ⌝ }
+    ensures { λ b. ⌜ b ≡ clears d r ⌝ }
 {
-    d.s <= r * r * (d.e * d.e)
+    d.s < r * r * (d.e * d.e)
 }
 
-// By bisection: no number below `low` reaches, and `high` does.
-fn least_reaching(d: Disk) -> u64
+// By bisection: no circle of a radius below `low` keeps clear, and that of `high` does.
+fn least_clear(d: Disk) -> u64
     requires { ⌜ validDisk d ≡ true ⌝ }
     ensures { λ r. ⌜ r ≡ wholeRadius d ⌝ }
 {
@@ -35,7 +35,7 @@ fn least_reaching(d: Disk) -> u64
     let mut high: u64 = MAX_RADIUS;
     while low < high {
         let middle = (low + high) / 2;
-        if is_reaching(d, middle) {
+        if is_clear(d, middle) {
             high = middle;
         } else {
             low = middle + 1;
@@ -44,12 +44,12 @@ fn least_reaching(d: Disk) -> u64
     high
 }
 
-// The least whole number r with r²E² at least S.
+// The least whole number r with r²E² greater than S.
 pub fn whole_radius(d: Disk, t: SupportSet) -> Radius
     ensures { λ r. ⌜ outcome r ≡ radiusOf d (members t) ⌝ }
 {
     if validity::is_valid(d, t) {
-        return Radius::Whole(least_reaching(d));
+        return Radius::Whole(least_clear(d));
     }
     Radius::Refused(Refusal::BadRecord)
 }

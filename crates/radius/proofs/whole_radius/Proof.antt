@@ -1,4 +1,4 @@
--- `radius::whole_radius` meets its contract: the rules, then the least number that reaches.
+-- `radius::whole_radius` meets its contract: the rules, then the least radius that keeps clear.
 use mathlib.Core.Path.{sym, ap, _∙_}
 use borrow.Author.Needs.{needs}
 use Rattle.geometry.specs.EmBox.{em}
@@ -11,18 +11,18 @@ use Rattle.radius.proofs.whole_radius.Tie as tie
 is-valid-requires : tie.Need-is-valid-requires
 is-valid-requires c κs = search needs
 
-least-reaching-requires : tie.Need-least-reaching-requires
-least-reaching-requires c κs =
+least-clear-requires : tie.Need-least-clear-requires
+least-clear-requires c κs =
     let s = c .before .before in
     valid-disk em (s .args .d) (members (s .args .t)) (sym (c .before .is-valid .ensures) ∙ c .if1 .taken)
 
 returns : tie.Need-returns
 returns c =
-    rw (sym (c .before .before .is-valid .ensures) ∙ c .before .if1 .taken) (ap given (c .least-reaching .ensures))
+    rw (sym (c .before .before .is-valid .ensures) ∙ c .before .if1 .taken) (ap given (c .least-clear .ensures))
 
 returns-2 : tie.Need-returns-2
 returns-2 c = rw (sym (c .before .is-valid .ensures) ∙ c .if1 .left)
 
 pub whole-radius-spec : {M : Type 1} → statement M
 whole-radius-spec =
-    tie.close (tie.spec is-valid-requires least-reaching-requires returns returns-2)
+    tie.close (tie.spec is-valid-requires least-clear-requires returns returns-2)

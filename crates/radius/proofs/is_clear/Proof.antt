@@ -1,11 +1,11 @@
--- `radius::is_reaching` meets its contract: the numbers of a valid disk are small enough for the products.
+-- `radius::is_clear` meets its contract: the numbers of a valid disk are small enough for the products.
 use native.Mathlib.Omega.{arith}
 use native.Mathlib.Nat.{mul-le-mul}
 use borrow.Author.Needs.{needs}
 use Rattle.geometry.specs.EmBox.{em}
 use Rattle.validity.proofs.ValidLaws.{limits}
-use Rattle.radius.proofs.is_reaching.Statement.{statement}
-use Rattle.radius.proofs.is_reaching.Tie as tie
+use Rattle.radius.proofs.is_clear.Statement.{statement}
+use Rattle.radius.proofs.is_clear.Tie as tie
 
 mul-result : tie.Need-mul-result
 mul-result c = omega (arith, mul-le-mul (c .pre .1) (c .pre .1))
@@ -22,5 +22,5 @@ mul-result-3 c =
 returns : tie.Need-returns
 returns c = search needs
 
-pub is-reaching-spec : {M : Type 1} → statement M
-is-reaching-spec = tie.close (tie.spec mul-result mul-result-2 mul-result-3 returns)
+pub is-clear-spec : {M : Type 1} → statement M
+is-clear-spec = tie.close (tie.spec mul-result mul-result-2 mul-result-3 returns)
