@@ -1,21 +1,19 @@
-//! The cutting radius and the preview (document 01, "Cutting radius and preview").
+//! The cutting radius (document 02, item 3) and the preview (document 01, "Cutting radius and preview").
 
 use crate::geometry::{Disk, Point};
 use crate::record;
 use crate::refusal::Refusal;
 
-/// The least whole R, 0 or more, with R²E² at least S (document 01: the cutting radius): refusal 7.
+/// The least whole R with R²E² greater than S (document 01: the cutting radius): refusal 7.
 pub fn whole_radius(disk: &Disk, support: &[Point]) -> Result<u64, Refusal> {
     record::check(disk, support)?;
     Ok(least_radius(disk))
 }
 
-/// R·E is at least the root of S exactly if it is at least the root rounded up.
+/// R·E is above the root of S exactly if it is above the root rounded down.
 fn least_radius(disk: &Disk) -> u64 {
     let (s, e) = (disk.s.unsigned_abs(), disk.e.unsigned_abs());
-    let floor = s.isqrt();
-    let root = if floor * floor == s { floor } else { floor + 1 };
-    u64::try_from(root.div_ceil(e)).expect("a valid disk's radius is at most 708")
+    u64::try_from(s.isqrt() / e + 1).expect("a valid disk's radius is at most 708")
 }
 
 /// The centre and the whole radius as floats.
@@ -51,9 +49,22 @@ mod tests {
             let answer = engine::solve(&mut engine::flat(&case.points)).unwrap();
             let r = i128::from(whole_radius(&answer.disk, &answer.support).unwrap());
             let square = |r: i128| r * r * answer.disk.e * answer.disk.e;
-            assert!(square(r) >= answer.disk.s, "{}", case.name);
-            assert!(r == 0 || square(r - 1) < answer.disk.s, "{}", case.name);
+            assert!(square(r) > answer.disk.s, "{}", case.name);
+            assert!(r > 0 && square(r - 1) <= answer.disk.s, "{}", case.name);
             assert!(r <= 708, "{}", case.name);
+        }
+    }
+
+    #[test]
+    fn the_cut_keeps_off_every_point() {
+        for case in lists::mixed(2_000, 40) {
+            let answer = engine::solve(&mut engine::flat(&case.points)).unwrap();
+            let r = i128::from(whole_radius(&answer.disk, &answer.support).unwrap());
+            let keeps_off = |r: i128| {
+                let inside = |&p: &Point| answer.disk.scaled_square_distance(p) < (r * answer.disk.e).pow(2);
+                case.points.iter().all(inside)
+            };
+            assert!(keeps_off(r) && !keeps_off(r - 1), "{}", case.name);
         }
     }
 
@@ -67,7 +78,7 @@ mod tests {
     #[test]
     fn zero_is_plus_zero() {
         let disk = Disk { x: 0, y: 0, e: 1, s: 0 };
-        assert_eq!(preview(&disk, &[Point::new(0, 0)]).unwrap().bits(), [0, 0, 0]);
+        assert_eq!(preview(&disk, &[Point::new(0, 0)]).unwrap().bits(), [0, 0, 1f64.to_bits()]);
     }
 
     #[test]

@@ -1,5 +1,5 @@
-//! The letters A to K of document 01. Where it gives no count or order, the value is that of an earlier exact implementation, of
-//! which this one is independent.
+//! The letters A to K of document 01, with R by document 02, item 3. Where no count or order is given, the value is that of an
+//! earlier exact implementation, of which this one is independent.
 
 use crate::geometry::Point;
 
@@ -21,16 +21,16 @@ pub fn points(pairs: &[(i16, i16)]) -> Vec<Point> {
 
 #[rustfmt::skip]
 pub const LETTERS: [Letter; 11] = [
-    Letter { name: "A", list: &[(0, 0)], disk: (0, 0, 1, 0), support: &[(0, 0)], radius: 0, tests: 1, left: &[(0, 0)] },
+    Letter { name: "A", list: &[(0, 0)], disk: (0, 0, 1, 0), support: &[(0, 0)], radius: 1, tests: 1, left: &[(0, 0)] },
     Letter { name: "B", list: &[(0, 0), (3, 0)], disk: (3, 0, 2, 9), support: &[(0, 0), (3, 0)], radius: 2, tests: 3, left: &[(3, 0), (0, 0)] },
-    Letter { name: "C", list: &[(0, 0), (4, 0)], disk: (2, 0, 1, 4), support: &[(0, 0), (4, 0)], radius: 2, tests: 3, left: &[(4, 0), (0, 0)] },
+    Letter { name: "C", list: &[(0, 0), (4, 0)], disk: (2, 0, 1, 4), support: &[(0, 0), (4, 0)], radius: 3, tests: 3, left: &[(4, 0), (0, 0)] },
     Letter { name: "D", list: &[(0, 0), (10, 0), (0, 10), (10, 10)], disk: (5, 5, 1, 50), support: &[(0, 0), (10, 10)], radius: 8, tests: 7, left: &[(0, 10), (10, 0), (0, 0), (10, 10)] },
-    Letter { name: "E", list: &[(0, 0), (6, 0), (0, 8)], disk: (3, 4, 1, 25), support: &[(0, 8), (6, 0)], radius: 5, tests: 6, left: &[(0, 8), (6, 0), (0, 0)] },
+    Letter { name: "E", list: &[(0, 0), (6, 0), (0, 8)], disk: (3, 4, 1, 25), support: &[(0, 8), (6, 0)], radius: 6, tests: 6, left: &[(0, 8), (6, 0), (0, 0)] },
     Letter { name: "F", list: &[(0, 0), (4, 0), (2, 3)], disk: (12, 5, 6, 169), support: &[(0, 0), (2, 3), (4, 0)], radius: 3, tests: 7, left: &[(2, 3), (0, 0), (4, 0)] },
-    Letter { name: "G", list: &[(0, 0), (10, 0), (5, 1)], disk: (5, 0, 1, 25), support: &[(0, 0), (10, 0)], radius: 5, tests: 4, left: &[(10, 0), (0, 0), (5, 1)] },
-    Letter { name: "H", list: &[(7, 7), (7, 7), (7, 7)], disk: (7, 7, 1, 0), support: &[(7, 7)], radius: 0, tests: 3, left: &[(7, 7), (7, 7), (7, 7)] },
+    Letter { name: "G", list: &[(0, 0), (10, 0), (5, 1)], disk: (5, 0, 1, 25), support: &[(0, 0), (10, 0)], radius: 6, tests: 4, left: &[(10, 0), (0, 0), (5, 1)] },
+    Letter { name: "H", list: &[(7, 7), (7, 7), (7, 7)], disk: (7, 7, 1, 0), support: &[(7, 7)], radius: 1, tests: 3, left: &[(7, 7), (7, 7), (7, 7)] },
     Letter { name: "I", list: &[(0, 0), (1, 1), (2, 2)], disk: (1, 1, 1, 2), support: &[(0, 0), (2, 2)], radius: 2, tests: 7, left: &[(2, 2), (0, 0), (1, 1)] },
-    Letter { name: "J", list: &[(0, 0), (2, 0), (4, 0)], disk: (2, 0, 1, 4), support: &[(0, 0), (4, 0)], radius: 2, tests: 7, left: &[(4, 0), (0, 0), (2, 0)] },
+    Letter { name: "J", list: &[(0, 0), (2, 0), (4, 0)], disk: (2, 0, 1, 4), support: &[(0, 0), (4, 0)], radius: 3, tests: 7, left: &[(4, 0), (0, 0), (2, 0)] },
     Letter { name: "K", list: &[(0, -250), (1000, -250), (0, 750), (1000, 750)], disk: (500, 250, 1, 500_000), support: &[(0, -250), (1000, 750)], radius: 708, tests: 7, left: &[(0, 750), (1000, -250), (0, -250), (1000, 750)] },
 ];
 

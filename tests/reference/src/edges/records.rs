@@ -47,7 +47,7 @@ pub fn writings() -> Vec<Writing> {
 #[rustfmt::skip]
 const VALID: [(&str, Numbers, &[(i16, i16)], u64); 4] = [
     ("the centre in the em box, S at most 500,000 × E²", (0, -250, 1, 500_000), &[(0, -250)], 708),
-    ("the centre in the em box", (1000, 750, 1, 1), &[(1000, 750)], 1),
+    ("the centre in the em box", (1000, 750, 1, 1), &[(1000, 750)], 2),
     ("E from 1 to 2,000,000, S at most 500,000 × E²", (1_999_999_999, -499_999_999, 2_000_000, 2_000_000_000_000_000_000), &[(0, -250), (1000, 750)], 708),
     ("X, Y (signed); x and y 2 bytes each, signed", (1, -7, 3, 11), &[(3, -9), (3, -8), (4, -250)], 2),
 ];
@@ -96,18 +96,19 @@ fn rooms() -> impl Iterator<Item = Writing> {
     rows.into_iter().map(move |(room, numbers, written, radius)| writing(says, room, numbers, F_POINTS, written, radius))
 }
 
-/// Every whole radius that a valid disk can have: S at R²E², a step below it and a step above.
+/// Every whole radius that a valid disk can have: S at R²E², a step below it and a step above; some of them with a large E too.
 fn squares() -> impl Iterator<Item = Writing> {
     let disks = (0..708).flat_map(|r| [(r, 0, 1), (r, 1, 2), (r, 1, 997)]);
-    disks.flat_map(|(r, x, e)| beside_square(r, x, e))
+    let large = [0, 1, 2, 353, 706, 707].map(|r| (r, 1, 1_999_999));
+    disks.chain(large).flat_map(|(r, x, e)| beside_square(r, x, e))
 }
 
-/// The radius is R at S = R²E² and a step below, R + 1 a step above. But a step below S = 1 is 0, which has the radius 0.
+/// The radius is R a step below S = R²E², and R + 1 there and a step above. But a step above 0, where E is 1, is the square of 1: 2.
 fn beside_square(r: u64, x: i128, e: i128) -> impl Iterator<Item = Writing> {
-    let says = "the least whole number R, 0 or more, with R²E² at least S";
+    let says = "the cutting radius is the least whole R with R²E² greater than S (02, item 3)";
     let square = (i128::from(r) * e).pow(2);
-    let below = if square == 1 { 0 } else { r };
-    let rows = [(square - 1, below), (square, r), (square + 1, r + 1)].into_iter().filter(|&(s, _)| s >= 0);
+    let above = if (r, e) == (0, 1) { 2 } else { r + 1 };
+    let rows = [(square - 1, r), (square, r + 1), (square + 1, above)].into_iter().filter(|&(s, _)| s >= 0);
     rows.map(move |(s, radius)| writing(says, 44, (x, 0, e, s), &[(0, 0)], Ok(()), Ok(radius)))
 }
 
