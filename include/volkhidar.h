@@ -151,7 +151,9 @@ volkhidar_glyph_answer volkhidar_glyph(const uint8_t *sheet, size_t sheet_length
 volkhidar_disk_answer volkhidar_smallest_disk(int16_t *list, size_t list_length);
 
 /*
- * The whole radius of a disk: the least whole number R with R^2 e^2 at least s.
+ * The radius to cut with, a whole number: the least R with R^2 e^2 greater than s. The cut, the circle of radius R about the disk's
+ * centre, keeps off every point that the disk holds: each lies inside it and none on it. So R is above the disk's own radius by at most
+ * 1, and by 1 exactly where that is a whole number itself; a single point has R 1.
  * Refusal: 7 for a disk and support set that a valid record could not hold.
  */
 volkhidar_radius_answer volkhidar_whole_radius(volkhidar_disk disk, volkhidar_support support);

@@ -141,7 +141,8 @@ pub fn smallest_disk(list: &mut [i16]) -> Result<Enclosed, Refusal> {
     Ok(Enclosed { disk: answer.disk, support: answer.support.into(), tests: answer.tests })
 }
 
-/// The least whole number R with R²e² at least s.
+/// The radius to cut with: the least whole number R with R²e² greater than s. The circle of radius R about the disk's centre keeps off
+/// every point that the disk holds: each lies inside it and none on it.
 ///
 /// Refuses a disk and support set that a valid record could not hold: [`Refusal::BadRecord`].
 ///
@@ -151,6 +152,10 @@ pub fn smallest_disk(list: &mut [i16]) -> Result<Enclosed, Refusal> {
 /// let support = SupportSet::Two(Point { x: 0, y: 0 }, Point { x: 3, y: 0 });
 /// assert_eq!(whole_radius(Disk { x: 3, y: 0, e: 2, s: 9 }, support), Ok(2));
 /// assert_eq!(whole_radius(Disk { x: 6, y: 0, e: 4, s: 36 }, support), Err(Refusal::BadRecord));
+///
+/// // both points are 2 away from the centre: a circle of radius 2 would go through them
+/// let support = SupportSet::Two(Point { x: 0, y: 0 }, Point { x: 4, y: 0 });
+/// assert_eq!(whole_radius(Disk { x: 2, y: 0, e: 1, s: 4 }, support), Ok(3));
 /// ```
 pub fn whole_radius(disk: Disk, support: SupportSet) -> Result<u64, Refusal> {
     let answer = unsafe { raw::volkhidar_whole_radius(disk, support.into()) };
@@ -158,7 +163,7 @@ pub fn whole_radius(disk: Disk, support: SupportSet) -> Result<u64, Refusal> {
     Ok(answer.radius)
 }
 
-/// The centre as x/e and y/e, each divided once and rounded once, and the whole radius.
+/// The centre as x/e and y/e, each divided once and rounded once, and the whole radius (see [`whole_radius`]).
 ///
 /// Refuses a disk and support set that a valid record could not hold: [`Refusal::BadRecord`].
 ///
