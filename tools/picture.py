@@ -4,8 +4,8 @@
     tools/picture.py ampersand target/bin/listing > docs/ampersand.svg
 
 The words behind the glyph's name are the listing program; it is given the description of the glyph's points. Everything about the disk
-comes from what it prints. A lens shows a support point, the boundary and the circle of the whole radius, which lie less than a unit
-apart.
+comes from what it prints. A lens shows a support point on the boundary, and the cut: the circle of the whole radius, at most a unit
+farther out, which keeps off every point.
 """
 import math
 import pathlib
@@ -13,7 +13,7 @@ import subprocess
 import sys
 
 OUTLINES = pathlib.Path(__file__).resolve().parent.parent / "bench" / "data" / "dejavu-serif.outlines"
-LENS = 6  # units across
+LENS = 2  # units across
 COLUMN = 500  # the room beside the disk, in units
 STEPS = 4  # points on each piece of the outline
 
@@ -102,9 +102,11 @@ def picture(glyph, pieces, points, answer):
         f"    {s}/{e}²",
         "support set",
         "    " + " ".join(f"({a}, {b})" for a, b in zip(rim[::2], rim[1::2])),
-        f"whole radius {answer['whole'][0]}",
+        f"whole radius {answer['whole'][0]}: the cut,",
+        "    off every point",
         f"{answer['tests'][0]} tests",
     ]
+    caption = [f"{LENS} units about ({rim[-2]}, {rim[-1]}),", "    dashed: the cut"]
     across = left + side + 20
     lens = f"{px - LENS / 2:g} {py - LENS / 2:g} {LENS} {LENS}"
     return "\n".join([
@@ -113,12 +115,12 @@ def picture(glyph, pieces, points, answer):
         f'<rect x="{left:.6g}" y="{top:.6g}" width="{side + COLUMN:.6g}" height="{side:.6g}" fill="white"/>',
         scene(pieces, points, answer, 4),
         *[label(across, top + 50 + 36 * i, line) for i, line in enumerate(lines)],
-        f'<svg x="{across:.6g}" y="{top + side - 360:.6g}" width="300" height="300" viewBox="{lens}">',
+        f'<svg x="{across:.6g}" y="{top + side - 396:.6g}" width="300" height="300" viewBox="{lens}">',
         f'<rect x="{px - LENS / 2:g}" y="{py - LENS / 2:g}" width="{LENS}" height="{LENS}" fill="white"/>',
-        scene(pieces, points, answer, LENS / 40),
+        scene(pieces, points, answer, LENS / 60),
         f'<rect x="{px - LENS / 2:g}" y="{py - LENS / 2:g}" width="{LENS}" height="{LENS}" fill="none" stroke="#888" stroke-width="{LENS / 60:g}"/>',
         "</svg>",
-        label(across, top + side - 20, f"{LENS} units about ({rim[-2]}, {rim[-1]})"),
+        *[label(across, top + side - 56 + 36 * i, line) for i, line in enumerate(caption)],
         "</svg>",
     ])
 
