@@ -64,7 +64,7 @@ void judge(const Drawn& d, const Disk& smallest, const List& list, Faults& fault
     bool is_missing = !holds_all(d, list);
     faults.misses += is_missing;
     faults.larger += !is_missing && compare_radius(d, smallest) > 0;
-    faults.wrong_radius += std::ceil(radius) != double(whole_radius(smallest));
+    faults.wrong_radius += std::floor(radius) + 1 != double(whole_radius(smallest));
     faults.too_large = std::max(faults.too_large, radius - least);
     for (Point p : list) faults.sticks_out = std::max(faults.sticks_out, std::hypot(p.x - d.x, p.y - d.y) - radius);
 }

@@ -86,10 +86,10 @@ inline double radius_of(const Drawn& d) {
     return d.is_square ? std::sqrt(d.radius) : d.radius;
 }
 
-// The least whole R, 0 or more, with R^2 e^2 at least s.
+// The least whole R with R^2 e^2 greater than s.
 inline int64_t whole_radius(const Disk& d) {
     int64_t r = 0;
-    while (__int128(r) * r * d.e * d.e < d.s) r++;
+    while (__int128(r) * r * d.e * d.e <= d.s) r++;
     return r;
 }
 

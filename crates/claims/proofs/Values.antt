@@ -8,10 +8,10 @@
 --   all-values              : Values
 use mathlib.Core.Path.{_≡_, refl, sym, ap, _∙_, subst}
 use mathlib.Core.Logic.{_↔_}
-use mathlib.Core.Bool.{false, true≢false}
+use mathlib.Core.Bool.{false}
 use mathlib.Core.List.{List, [], _∷_, _++_}
-use Prim.Native.Nat.{ℕ, _*_, _≤_, _<_}
-use native.Mathlib.Nat.{le-antisymm, le-trans, le-of-eq, mul-le-mul-right, lt-of-not-le, le-of-suc-le-suc}
+use Prim.Native.Nat.{ℕ, _*_, _≤_}
+use native.Mathlib.Nat.{le-antisymm, le-trans, le-of-eq, mul-le-mul-right}
 use native.Mathlib.Omega.{arith}
 use borrow.Author.Tests.{lt-ltb, ltb-true}
 use lib.Dec.{T}
@@ -26,6 +26,7 @@ use lib.Ieee.Scale.{finite}
 use Rattle.answers.specs.Outcome.{Outcome, given, refused, andThen}
 use Rattle.answers.proofs.OutcomeLaws.{not-given, given-same, given-by}
 use Rattle.integers.proofs.Abs.{abs-*}
+use Rattle.integers.proofs.LeastLaws.{least-most}
 use Rattle.integers.specs.Order.{_≼_}
 use Rattle.integers.proofs.Tests.{both, test-true, between-most}
 use Rattle.geometry.specs.declared.Point.{Point}
@@ -113,8 +114,7 @@ after-glyph s k = row-through (glyphOf s k) (glyphBytes s k) (calls.sheet s k) (
 radius-least : (d : Disk) → 1 ≤ d .e → LeastRadius d (wholeRadius d)
 radius-least d h = let l = radius-is-least d h in record {
   clears = ltb-true (d .s) (wholeRadius d * wholeRadius d * (d .e * d .e)) (l .passes);
-  least = λ q r. le-of-suc-le-suc
-      (lt-of-not-le (λ (below : q < wholeRadius d). true≢false (sym (lt-ltb (d .s) (q * q * (d .e * d .e)) r) ∙ l .first q below)));
+  least = λ q more. least-most l (lt-ltb (d .s) (q * q * (d .e * d .e)) more);
 }
 
 pub least-same : (d : Disk) (r q : ℕ) → LeastRadius d r → LeastRadius d q → r ≡ q

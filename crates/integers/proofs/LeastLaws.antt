@@ -1,6 +1,7 @@
 -- The least number that passes a test.
 --
 --   least-is    : where n passes, `least test n` is the least number that does
+--   least-most  : no number that passes is smaller than the least
 --   only-least  : only one number is the least
 --   one-more    : what fails below r, and at r, fails below r + 1
 use mathlib.Core.Path.{_≡_, refl, sym, _∙_}
@@ -28,8 +29,8 @@ least-is test n h = first-is test n (test 0) 0 refl (λ k l. absurd (none k l)) 
     none : (k : ℕ) → k < 0 → ⊥
     none k l = omega arith
 
-not-above : {test : ℕ → Bool} {r q : ℕ} → IsLeast test r → IsLeast test q → r ≤ q
-not-above {test} {r} {q} i j = le-of-suc-le-suc (lt-of-not-le (λ (h : suc q ≤ r). true≢false (sym (j .passes) ∙ i .first q h)))
+pub least-most : {test : ℕ → Bool} {r q : ℕ} → IsLeast test r → test q ≡ true → r ≤ q
+least-most {test} {r} {q} i h = le-of-suc-le-suc (lt-of-not-le (λ (l : suc q ≤ r). true≢false (sym h ∙ i .first q l)))
 
 pub only-least : {test : ℕ → Bool} {r q : ℕ} → IsLeast test r → IsLeast test q → r ≡ q
-only-least i j = le-antisymm (not-above i j) (not-above j i)
+only-least i j = le-antisymm (least-most i (j .passes)) (least-most j (i .passes))

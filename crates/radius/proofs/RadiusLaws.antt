@@ -1,36 +1,28 @@
 -- The whole radius is the least number whose circle keeps clear of the disk.
 --
---   clears-more       : a number that is not smaller than one that clears does so too
---   clears-less       : one that is not larger than one that does not clear does not either
+--   clears-less       : a number that is not larger than one that does not clear does not either
 --   clears-limit      : `maxRadius` clears, where S/E² keeps to its limit
 --   radius-is-least   : `wholeRadius d` is the least number that clears, where E is at least 1
 --   radius-only       : and the only one
 --   radius-limit      : no whole radius is larger than `maxRadius`
-use mathlib.Core.Path.{_≡_, refl, sym, _∙_, subst}
-use mathlib.Core.Bool.{Bool, true, false, true≢false}
+use mathlib.Core.Path.{_≡_}
+use mathlib.Core.Bool.{true, false}
 use Prim.Native.Nat.{ℕ, suc, _*_, _≤_}
-use native.Mathlib.Nat.{mul-le-mul, mul-le-mul-right, mul-lt-mul-of-pos-right, le-mul-of-pos-right, le-trans, lt-of-lt-of-le, lt-of-le-of-lt, le-of-suc-le-suc, lt-of-not-le}
+use native.Mathlib.Nat.{mul-le-mul, mul-le-mul-right, mul-lt-mul-of-pos-right, le-mul-of-pos-right, le-trans, lt-of-le-of-lt}
 use native.Mathlib.Omega.{arith}
-use borrow.Author.Tests.{lt-ltb, ltb-true}
+use borrow.Author.Tests.{lt-ltb, le-ltb, ltb-false}
 use lib.Dec.{lit<}
 use Rattle.geometry.specs.declared.Disk.{Disk}
 use Rattle.geometry.specs.EmBox.{em}
 use Rattle.integers.specs.Least.{IsLeast}
 use Rattle.radius.specs.Radius.{clears, wholeRadius, maxRadius}
-use Rattle.integers.proofs.LeastLaws.{least-is, only-least}
+use Rattle.integers.proofs.LeastLaws.{least-is, least-most, only-least}
 use Rattle.validity.proofs.ValidLaws.{DiskBounds}
 
-pub clears-more : (d : Disk) {r q : ℕ} → r ≤ q → clears d r ≡ true → clears d q ≡ true
-clears-more d {r} {q} l h =
-    lt-ltb (d .s) (q * q * (d .e * d .e))
-    (lt-of-lt-of-le (ltb-true (d .s) (r * r * (d .e * d .e)) h) (mul-le-mul-right (d .e * d .e) (mul-le-mul l l)))
-
 pub clears-less : (d : Disk) {r q : ℕ} → r ≤ q → clears d q ≡ false → clears d r ≡ false
-clears-less d {r} {q} l h = go (clears d r) refl
-  where
-    go : (b : Bool) → clears d r ≡ b → b ≡ false
-    go true e = absurd (true≢false (sym (clears-more d l e) ∙ h))
-    go false e = refl
+clears-less d {r} {q} l h =
+    le-ltb (d .s) (r * r * (d .e * d .e))
+    (le-trans (mul-le-mul-right (d .e * d .e) (mul-le-mul l l)) (ltb-false (d .s) (q * q * (d .e * d .e)) h))
 
 pub clears-limit : (d : Disk) → DiskBounds em d → clears d maxRadius ≡ true
 clears-limit d k =
@@ -48,6 +40,4 @@ pub radius-only : (d : Disk) {r : ℕ} → 1 ≤ d .e → IsLeast (clears d) r �
 radius-only d h i = only-least i (radius-is-least d h)
 
 pub radius-limit : (d : Disk) → DiskBounds em d → wholeRadius d ≤ maxRadius
-radius-limit d k =
-    le-of-suc-le-suc
-    (lt-of-not-le (λ (h : suc maxRadius ≤ wholeRadius d). true≢false (sym (clears-limit d k) ∙ radius-is-least d (k .e-some) .first maxRadius h)))
+radius-limit d k = least-most (radius-is-least d (k .e-some)) (clears-limit d k)
