@@ -1,9 +1,9 @@
 -- The cut keeps off every point (specs/CutKeepsOff.antt).
 --
---   off-held         : a circle that clears the disk keeps off every point that it holds
---   clears-all       : a circle that keeps off every point clears their smallest disk
---   rule-off, off-rule : for the smallest disk of points, the rule of S and what it says of the points are one
---   cut-keeps-off    : CutKeepsOff
+--   off-held            : a circle that clears the disk keeps off every point that it holds
+--   clears-all          : a circle that keeps off every point clears their smallest disk
+--   rule-off, off-rule  : for the smallest disk of points, the rule of S and what it says of the points are one
+--   cut-keeps-off       : CutKeepsOff
 use mathlib.Core.Path.{_≡_, subst}
 use mathlib.Core.Logic.{_↔_}
 use mathlib.Core.Bool.{false}
@@ -17,7 +17,7 @@ use lib.Ieee.Exact.{HasValue}
 use Rattle.answers.specs.Outcome.{given}
 use Rattle.integers.specs.Order.{_≼_, _≺_}
 use Rattle.integers.proofs.Ring.{poly}
-use Rattle.integers.proofs.Order.{pos-le, le-pos, <-to-≤, ≤-to-<, ≤-<-trans, ≤-cancel, nonneg, positive, nn, le, lt, _⊠_}
+use Rattle.integers.proofs.Order.{pos-le, le-pos, <-to-≤, ≤-to-<, ≤-<-trans, nonneg, nonneg-by, nn, le, lt, _⊠_}
 use Rattle.geometry.specs.declared.Point.{Point}
 use Rattle.geometry.specs.declared.Disk.{Disk}
 use Rattle.geometry.specs.Plane.{distance, holds}
@@ -41,15 +41,14 @@ off-held : (d : Disk) (r : ℕ) → d .s < r * r * (d .e * d .e) → (p : Point)
 unfolding holds
 off-held d r h p held = ≤-<-trans {b = pos (d .s)} (record { le = held }) (≤-to-< (pos-le (omega (arith, h))))
 
--- ---- where a circle keeps off every point, a disk about the same centre and a little smaller than the circle holds them all: the smallest disk is no larger
+-- ---- a circle that keeps off every point: a disk about the same centre, a little smaller than the circle, holds them all, and none that does is
+-- smaller than the smallest
 
 scaled : (k n m : ℤ) → pos 0 ≼ k → n ≺ m → k *ℤ n ≼ (m -ℤ pos 1) *ℤ k
 scaled k n m h l = nonneg (k ∷ n ∷ m ∷ []) (h ⊠ lt l) (search poly depth 30) tt
 
 unscaled : (k n m : ℤ) → pos 0 ≺ k → n *ℤ k ≼ (m -ℤ pos 1) *ℤ k → n ≺ m
-unscaled k n m h l =
-    let same : k *ℤ n ≼ k *ℤ (m -ℤ pos 1) = nonneg (k ∷ n ∷ m ∷ []) (le l) (search poly depth 30) tt in
-    positive (n ∷ m ∷ []) (le (≤-cancel h same)) (search poly depth 30) tt
+unscaled k n m h l = ≤-to-< (nonneg-by (k ∷ n ∷ m ∷ []) k h (le l) (search poly depth 30) tt)
 
 module _ {P : List Point} {d : Disk} (m : Smallest P d) (r : ℕ) where
   -- the squared radius is a step of 1/E² below r²
