@@ -44,27 +44,15 @@ mod tests {
     use crate::{engine, lists};
 
     #[test]
-    fn the_radius_is_the_least() {
+    fn the_radius_is_the_least_and_its_circle_keeps_off_every_point() {
         for case in lists::mixed(2_000, 40) {
             let answer = engine::solve(&mut engine::flat(&case.points)).unwrap();
             let r = i128::from(whole_radius(&answer.disk, &answer.support).unwrap());
             let square = |r: i128| r * r * answer.disk.e * answer.disk.e;
-            assert!(square(r) > answer.disk.s, "{}", case.name);
-            assert!(r > 0 && square(r - 1) <= answer.disk.s, "{}", case.name);
-            assert!(r <= 708, "{}", case.name);
-        }
-    }
-
-    #[test]
-    fn the_cut_keeps_off_every_point() {
-        for case in lists::mixed(2_000, 40) {
-            let answer = engine::solve(&mut engine::flat(&case.points)).unwrap();
-            let r = i128::from(whole_radius(&answer.disk, &answer.support).unwrap());
-            let keeps_off = |r: i128| {
-                let inside = |&p: &Point| answer.disk.scaled_square_distance(p) < (r * answer.disk.e).pow(2);
-                case.points.iter().all(inside)
-            };
-            assert!(keeps_off(r) && !keeps_off(r - 1), "{}", case.name);
+            let keeps_off = |r: i128| case.points.iter().all(|&p| answer.disk.scaled_square_distance(p) < square(r));
+            assert!(square(r) > answer.disk.s && keeps_off(r), "{}", case.name);
+            assert!(square(r - 1) <= answer.disk.s && !keeps_off(r - 1), "{}", case.name);
+            assert!((1..=708).contains(&r), "{}", case.name);
         }
     }
 
