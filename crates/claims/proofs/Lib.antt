@@ -7,3 +7,4 @@ pub mod Values
 pub mod Whole
 pub mod DrawnPoints
 pub mod CutKeepsOff
+pub mod RecordCount

@@ -2,7 +2,7 @@
 --
 --   both-given    : a call after another gave a value: so did each
 --   encloses      : loader, then engine, goes by the loader's row
---   Steps         == the calls that gave the answers
+--   Steps, steps  == the calls that gave the answers
 --   whole-way, record-of, tests-mean : WholeWay, RecordOf, TestsMean
 use mathlib.Core.Path.{_≡_, refl, sym, ap, ap₂, _∙_, subst}
 use mathlib.Core.Logic.{_⊎_, inl, inr}
@@ -73,17 +73,17 @@ named-right t l e h =
 
 -- ---- the answers
 
-record Steps (t : List ℕ) (l : List ℤ) (b : List ℕ) (a : Answers) : Type 0 where
-  tests : ℕ
-  preview : Preview
-  found : enclosureIn t l ≡ given (record { disk = a .disk-given; support = a .support; tests = tests })
-  reached : radiusOf (a .disk-given) (a .support) ≡ given (a .radius)
-  seen : previewOf (a .disk-given) (a .support) ≡ given preview
-  shown-as : a .shown ≡ bits preview
-  done : writeOf (a .disk-given) (a .support) b ≡ given tt
-  filled-with : a .bytes ≡ take recordLength (writing.bufferAfter (a .disk-given) (a .support) b)
+pub record Steps (t : List ℕ) (l : List ℤ) (b : List ℕ) (a : Answers) : Type 0 where
+  pub tests : ℕ
+  pub preview : Preview
+  pub found : enclosureIn t l ≡ given (record { disk = a .disk-given; support = a .support; tests = tests })
+  pub reached : radiusOf (a .disk-given) (a .support) ≡ given (a .radius)
+  pub seen : previewOf (a .disk-given) (a .support) ≡ given preview
+  pub shown-as : a .shown ≡ bits preview
+  pub done : writeOf (a .disk-given) (a .support) b ≡ given tt
+  pub filled-with : a .bytes ≡ take recordLength (writing.bufferAfter (a .disk-given) (a .support) b)
 
-steps : (t : List ℕ) (l : List ℤ) (b : List ℕ) (a : Answers) → worked t l b ≡ given a → Steps t l b a
+pub steps : (t : List ℕ) (l : List ℤ) (b : List ℕ) (a : Answers) → worked t l b ≡ given a → Steps t l b a
 unfolding worked
 steps t l b a h =
     let one = both-given (enclosureIn t l) _ a h in

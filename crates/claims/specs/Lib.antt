@@ -6,3 +6,4 @@ pub mod Values
 pub mod Whole
 pub mod DrawnPoints
 pub mod CutKeepsOff
+pub mod RecordCount

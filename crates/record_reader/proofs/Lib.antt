@@ -1,4 +1,4 @@
 pub mod Meaning
 pub mod SamePoint
-pub mod TenFields
+pub mod RecordFields
 pub mod RoundTrip

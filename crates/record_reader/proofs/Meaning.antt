@@ -2,11 +2,13 @@
 --
 --   meant-one, meant-two, meant-three : of rising points made three, the points themselves are meant
 --   made-meant      : the points that three stand for, made three, are the three
+--   meant-first     : they are the first of the three, as many as there are
 --   before-differ   : a point that comes before another is not the same
 use mathlib.Core.Path.{_≡_, refl, sym, ap, ap₂, _∙_}
 use mathlib.Core.Bool.{Bool, true, false, true≢false, _&&_}
 use mathlib.Core.List.{[], _∷_}
 use lib.IntN.{ℤ}
+use lib.ListN.{length, take}
 use lib.Signed.{ltZ}
 use Rattle.integers.proofs.Bounds.{lt-true}
 use Rattle.integers.proofs.Order.{≤-refl, <-≤-clash}
@@ -62,3 +64,12 @@ made-meant a b c = go (same b c) (same a b) refl refl
     go false v e f = rw e
     go true false e f = rw (e, f) (ap (λ (q : Point). a ∷ b ∷ q ∷ []) (same-eq b c e))
     go true true e f = rw (e, f) (ap₂ (λ (p q : Point). a ∷ p ∷ q ∷ []) (same-eq a b f) (same-eq a b f ∙ same-eq b c e))
+
+pub meant-first : (a b c : Point) → meant a b c ≡ take (length (meant a b c)) (a ∷ b ∷ c ∷ [])
+unfolding meant
+meant-first a b c = go (same b c) (same a b) refl refl
+  where
+    go : (u v : Bool) → same b c ≡ u → same a b ≡ v → meant a b c ≡ take (length (meant a b c)) (a ∷ b ∷ c ∷ [])
+    go false v e f = rw e
+    go true false e f = rw (e, f)
+    go true true e f = rw (e, f)

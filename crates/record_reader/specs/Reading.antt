@@ -1,10 +1,11 @@
--- The record reader (01: reader, refusal 7).
+-- The record reader (01: reader, refusal 7; 02, item 4: the count).
 --
 --   signedAt n at bs   == the signed number of the n bytes from place `at` on
 --   diskIn bs          == the disk whose four numbers stand in front
 --   pointIn at bs      == the point whose x and y stand from place `at` on
 --   meant a b c        == the points that the three written ones stand for: the last, repeated, counts once
 --   pointsIn bs        == the points whose three stand behind
+--   countIn bs         == the count of points written at the end
 --   readOf bs          == what the call answers: the refusal due first, or the disk and the points
 --   outcome r          == document 01's number and values of each answer
 --
@@ -23,7 +24,7 @@ use Rattle.geometry.specs.declared.Disk.{Disk}
 use Rattle.integers.specs.Order.{eqZ}
 use Rattle.geometry.specs.Plane.{members}
 use Rattle.validity.specs.Valid.{valid}
-use Rattle.record_writer.specs.Layout.{numberWidth, coordinateWidth, xAt, yAt, eAt, sAt, firstAt, secondAt, thirdAt, recordLength}
+use Rattle.record_writer.specs.Layout.{numberWidth, coordinateWidth, countWidth, xAt, yAt, eAt, sAt, firstAt, secondAt, thirdAt, countAt, recordLength}
 use Rattle.record_reader.specs.declared.Record.{Record}
 use Rattle.record_reader.specs.declared.Record.the-variants.{Read, Refused}
 
@@ -50,10 +51,15 @@ meant a b c = count (same b c) (same a b)
 abbrev pub pointsIn : List ℕ → List Point
 pointsIn bs = meant (pointIn firstAt bs) (pointIn secondAt bs) (pointIn thirdAt bs)
 
+abbrev pub countIn : List ℕ → ℕ
+countIn bs = get countWidth 0 countAt bs
+
+-- "A count that disagrees with the repeats is refused as 7, as is any other length" (02, item 4)
 abbrev pub readOf : List ℕ → Outcome (Disk × List Point)
 readOf bs =
     refuseIf (not (eqb (length bs) recordLength)) 7
-    (refuseIf (not (valid (diskIn bs) (pointsIn bs))) 7 (given (diskIn bs, pointsIn bs)))
+    (refuseIf (not (eqb (countIn bs) (length (pointsIn bs)))) 7
+    (refuseIf (not (valid (diskIn bs) (pointsIn bs))) 7 (given (diskIn bs, pointsIn bs))))
 
 abbrev pub outcome : Record → Outcome (Disk × List Point)
 outcome (Read d t) = given (d, members t)

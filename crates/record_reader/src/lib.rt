@@ -1,10 +1,11 @@
 // The record reader.
 ghost use mathlib.Core.Path.{_≡_};
 ghost use Prim.Native.Nat.{_+_, _≤_};
+ghost use lib.Dec.{eqb};
 ghost use lib.ListN.{length};
 ghost use Rattle.geometry.specs.Plane.{members};
 ghost use Rattle.record_writer.specs.Layout.{coordinateWidth, pointWidth, firstAt, recordLength};
-ghost use Rattle.record_reader.specs.Reading.{signedAt, diskIn, pointIn, same, meant, pointsIn, readOf, outcome};
+ghost use Rattle.record_reader.specs.Reading.{signedAt, diskIn, pointIn, same, meant, pointsIn, countIn, readOf, outcome};
 use answers::Refusal;
 use geometry::Disk;
 use geometry::Point;
@@ -75,6 +76,16 @@ fn get_points(bytes: &[u8]) -> SupportSet
     without_repeats(a, b, c)
 }
 
+// Whether the count at the record's end is that of the points.
+fn count_agrees(bytes: &[u8], t: SupportSet) -> bool
+    requires { ⌜ recordLength ≤ length (now bytes) ⌝ }
+    ensures { λ r. ⌜ r ≡ eqb (countIn (now (bytes .entry))) (length (members t)) ⌝ }
+{
+    let written = big_endian::get_at(bytes, record_writer::COUNT_AT, record_writer::COUNT_WIDTH);
+    let meant = record_writer::count(t);
+    written == meant
+}
+
 // The disk and the support set whose record the bytes are.
 pub fn read_record(bytes: &[u8]) -> Record
     ensures { λ r. ⌜ outcome r ≡ readOf (now (bytes .entry)) ⌝ }
@@ -82,8 +93,10 @@ pub fn read_record(bytes: &[u8]) -> Record
     if bytes.len() == record_writer::RECORD_LENGTH {
         let d = get_disk(bytes);
         let t = get_points(bytes);
-        if validity::is_valid(d, t) {
-            return Record::Read(d, t);
+        if count_agrees(bytes, t) {
+            if validity::is_valid(d, t) {
+                return Record::Read(d, t);
+            }
         }
     }
     Record::Refused(Refusal::BadRecord)

@@ -3,9 +3,10 @@
 --   diskBytes-length, pointBytes-length, pointsBytes-length : those of the layout
 --   not-four              : one to three points are no more
 --   madeThree-length      : one to three points are made three
+--   threeBytes-length     : and these have the bytes between the disk and the count
 --   recordBytes-length    : a record has `recordLength` bytes
 --   three-stored          : three points stored one by one are stored together
---   record-stored         : the disk and the points stored are the record in front, and the rest as it was
+--   record-stored         : the disk, the points and the count stored are the record in front, and the rest as it was
 use mathlib.Core.Path.{_≡_, refl, sym, ap, ap₂, _∙_, subst}
 use mathlib.Core.Bool.{true, true≢false}
 use mathlib.Core.List.{List, [], _∷_, _++_, append-nil}
@@ -20,8 +21,8 @@ use Rattle.integers.proofs.Tests.{rest}
 use Rattle.geometry.specs.declared.Point.{Point}
 use Rattle.geometry.specs.declared.Disk.{Disk}
 use Rattle.validity.specs.Valid.{oneToThree}
-use Rattle.record_writer.specs.Layout.{recordLength, firstAt, pointWidth, xAt, secondAt, thirdAt}
-use Rattle.record_writer.specs.Bytes.{diskBytes, pointBytes, pointsBytes, madeThree, recordBytes}
+use Rattle.record_writer.specs.Layout.{recordLength, firstAt, pointWidth, xAt, secondAt, thirdAt, countAt}
+use Rattle.record_writer.specs.Bytes.{diskBytes, pointBytes, pointsBytes, madeThree, countBytes, recordBytes}
 use Rattle.big_endian.proofs.Stores.{sets-append}
 
 pub diskBytes-length : (d : Disk) → length (diskBytes d) ≡ firstAt
@@ -50,11 +51,12 @@ madeThree-length (a ∷ b ∷ []) h = refl
 madeThree-length (a ∷ b ∷ c ∷ []) h = refl
 madeThree-length (a ∷ b ∷ c ∷ p ∷ ps) h = absurd (not-four a b c p ps h)
 
+pub threeBytes-length : (ps : List Point) → oneToThree ps ≡ true → length (pointsBytes (madeThree ps)) ≡ 3 * pointWidth
+threeBytes-length ps h = pointsBytes-length (madeThree ps) ∙ ap (λ (n : ℕ). pointWidth * n) (madeThree-length ps h)
+
 pub recordBytes-length : (d : Disk) (ps : List Point) → oneToThree ps ≡ true → length (recordBytes d ps) ≡ recordLength
 unfolding recordBytes
-recordBytes-length d ps h =
-    length-append (diskBytes d) (pointsBytes (madeThree ps))
-    ∙ ap₂ _+_ (diskBytes-length d) (pointsBytes-length (madeThree ps) ∙ ap (λ (n : ℕ). pointWidth * n) (madeThree-length ps h))
+recordBytes-length d ps h = simp (length-append, bytesOf-length, threeBytes-length ps h)
 
 -- ---- stored in a buffer
 
@@ -69,10 +71,14 @@ three-stored l a b c =
     ∙ sym (sets-append l firstAt p (q ++ (r ++ [])) pointWidth (pointBytes-length a))
 
 pub record-stored : (l : List ℕ) (d : Disk) (ps : List Point) → oneToThree ps ≡ true → recordLength ≤ length l
-    → sets (sets l xAt (diskBytes d)) firstAt (pointsBytes (madeThree ps)) ≡ recordBytes d ps ++ drop recordLength l
+    → sets (sets (sets l xAt (diskBytes d)) firstAt (pointsBytes (madeThree ps))) countAt (countBytes ps) ≡ recordBytes d ps ++ drop recordLength l
 unfolding recordBytes
 record-stored l d ps h room =
     let e : length (recordBytes d ps) ≡ recordLength = recordBytes-length d ps h in
-    sym (sets-append l xAt (diskBytes d) (pointsBytes (madeThree ps)) firstAt (diskBytes-length d))
+    let three = pointsBytes (madeThree ps) in
+    let front = diskBytes d ++ three in
+    let both : length front ≡ countAt = length-append (diskBytes d) three ∙ ap₂ _+_ (diskBytes-length d) (threeBytes-length ps h) in
+    ap (λ (m : List ℕ). sets m countAt (countBytes ps)) (sym (sets-append l xAt (diskBytes d) three firstAt (diskBytes-length d)))
+    ∙ sym (sets-append l xAt front (countBytes ps) countAt both)
     ∙ sets-eq (recordBytes d ps) l xAt (subst (λ (n : ℕ). xAt + n ≤ length l) (sym e) room)
     ∙ ap (λ (n : ℕ). recordBytes d ps ++ drop (xAt + n) l) e

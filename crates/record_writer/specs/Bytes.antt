@@ -1,18 +1,20 @@
--- The bytes of a record (01, "Description, sheet, record").
+-- The bytes of a record (01, "Description, sheet, record"; 02, item 4).
 --
 --   signed n z         == the n bytes of z, signed, high byte first
 --   diskBytes d        == X, Y (signed), E, S
 --   pointsBytes ps     == x and y of each point, signed
 --   madeThree ps       == three points: if there are one or two, the last is repeated
+--   countBytes ps      == how many points there are
 --   recordBytes d ps   == the record of the disk d and the points ps
 use mathlib.Core.List.{List, [], _∷_, _++_}
 use Prim.Native.Nat.{ℕ}
 use lib.IntN.{ℤ}
+use lib.ListN.{length}
 use Rattle.big_endian.specs.Fields.{bytesOf}
 use Rattle.twos_complement.specs.Twos.{twos}
 use Rattle.geometry.specs.declared.Point.{Point}
 use Rattle.geometry.specs.declared.Disk.{Disk}
-use Rattle.record_writer.specs.Layout.{numberWidth, coordinateWidth}
+use Rattle.record_writer.specs.Layout.{numberWidth, coordinateWidth, countWidth}
 
 abbrev pub signed : ℕ → ℤ → List ℕ
 signed n z = bytesOf n (twos n z)
@@ -34,5 +36,8 @@ madeThree (a ∷ []) = a ∷ a ∷ a ∷ []
 madeThree (a ∷ b ∷ []) = a ∷ b ∷ b ∷ []
 madeThree (a ∷ b ∷ c ∷ ps) = a ∷ b ∷ c ∷ ps
 
+abbrev pub countBytes : List Point → List ℕ
+countBytes ps = bytesOf countWidth (length ps)
+
 unfoldable pub recordBytes : Disk → List Point → List ℕ
-recordBytes d ps = diskBytes d ++ pointsBytes (madeThree ps)
+recordBytes d ps = diskBytes d ++ pointsBytes (madeThree ps) ++ countBytes ps

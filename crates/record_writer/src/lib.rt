@@ -1,12 +1,12 @@
-// The record's layout (01: "A record has 44 bytes"), and the record writer.
+// The record's layout (01, "Description, sheet, record"; 02, item 4: 45 bytes), and the record writer.
 ghost use mathlib.Core.Path.{_≡_};
 ghost use mathlib.Core.List.{[], _∷_};
 ghost use Prim.Native.Nat.{_+_, _≤_};
 ghost use lib.ListN.{length};
 ghost use lib.Seq.{sets};
 ghost use Rattle.geometry.specs.Plane.{members};
-ghost use Rattle.record_writer.specs.Layout.{xAt, firstAt, pointWidth, recordLength};
-ghost use Rattle.record_writer.specs.Bytes.{diskBytes, pointBytes, pointsBytes, madeThree};
+ghost use Rattle.record_writer.specs.Layout.{xAt, firstAt, pointWidth, countAt, recordLength};
+ghost use Rattle.record_writer.specs.Bytes.{diskBytes, pointBytes, pointsBytes, madeThree, countBytes};
 ghost use Rattle.record_writer.specs.Writing.{writeOf, bufferAfter, outcome};
 use answers::Refusal;
 use geometry::Disk;
@@ -17,6 +17,8 @@ use geometry::SupportSet;
 pub const NUMBER_WIDTH: usize = 8;
 
 pub const COORDINATE_WIDTH: usize = 2;
+
+pub const COUNT_WIDTH: usize = 1;
 
 pub const X_AT: usize = 0;
 
@@ -32,7 +34,9 @@ pub const SECOND_AT: usize = 36;
 
 pub const THIRD_AT: usize = 40;
 
-pub const RECORD_LENGTH: usize = 44;
+pub const COUNT_AT: usize = 44;
+
+pub const RECORD_LENGTH: usize = 45;
 
 pub enum Written {
     Done,
@@ -87,6 +91,25 @@ fn put_points(buf: &mut [u8], t: SupportSet)
     }
 }
 
+// How many points there are.
+pub fn count(t: SupportSet) -> u64
+    ensures { λ r. ⌜ r ≡ length (members t) ⌝ }
+{
+    match t {
+        SupportSet::One(_) => 1,
+        SupportSet::Two(_, _) => 2,
+        SupportSet::Three(_, _, _) => 3,
+    }
+}
+
+fn put_count(buf: &mut [u8], t: SupportSet)
+    requires { ⌜ recordLength ≤ length (now buf) ⌝ }
+    ensures { λ _. ⌜ now (buf .exit) ≡ sets (now (buf .entry)) countAt (countBytes (members t)) ⌝ }
+{
+    let n = count(t);
+    big_endian::put_at(buf, COUNT_AT, COUNT_WIDTH, n);
+}
+
 // Writes the record of d and t to the first bytes of buf and leaves the rest.
 pub fn write_record(d: Disk, t: SupportSet, buf: &mut [u8]) -> Written
     ensures { λ r. ⌜ outcome r ≡ writeOf d (members t) (now (buf .entry)) ⌝ }
@@ -98,6 +121,7 @@ pub fn write_record(d: Disk, t: SupportSet, buf: &mut [u8]) -> Written
     if validity::is_valid(d, t) {
         put_disk(buf, d);
         put_points(buf, t);
+        put_count(buf, t);
         return Written::Done;
     }
     Written::Refused(Refusal::BadRecord)

@@ -1,8 +1,8 @@
 -- Each public call goes by its row of rules (specs/Rules.antt).
 --
 --   loader, sheet, engine, radius, preview, writer, reader, append : the calls
-use mathlib.Core.Path.{_≡_, sym, ap, _∙_, subst}
-use mathlib.Core.Bool.{Bool, true, not, true≢false}
+use mathlib.Core.Path.{_≡_, refl, sym, ap, ap₂, _∙_, subst}
+use mathlib.Core.Bool.{Bool, true, false, not, true≢false}
 use mathlib.Core.List.{List, [], _∷_}
 use Prim.Native.Nat.{ℕ, suc, _*_, _/_, _%_, _≤_, _<_}
 use native.Mathlib.Omega.{arith}
@@ -11,7 +11,6 @@ use lib.Dec.{eqb, leb, ltb}
 use lib.IntN.{ℤ}
 use lib.ListN.{length}
 use Rattle.answers.specs.Outcome.{Outcome, given, refuseIf, andThen}
-use Rattle.answers.proofs.OutcomeLaws.{not-refused}
 use Rattle.geometry.specs.declared.Point.{Point}
 use Rattle.geometry.specs.declared.Disk.{Disk}
 use Rattle.geometry.specs.EmBox.{em, Inside, inEmBox, allInEmBox}
@@ -27,8 +26,8 @@ use Rattle.validity.specs.Valid.{valid}
 use Rattle.radius.specs.Radius.{wholeRadius, radiusOf}
 use Rattle.record_writer.specs.Layout.{recordLength}
 use Rattle.record_writer.specs.Writing.{writeOf}
-use Rattle.record_reader.specs.Reading.{diskIn, pointsIn, readOf}
-use Rattle.record_reader.proofs.RoundTrip.{read-written, written-again}
+use Rattle.record_reader.specs.Reading.{diskIn, pointsIn, countIn, readOf}
+use Rattle.record_reader.proofs.RoundTrip.{read-written, accepted, written-again}
 use Rattle.preview.specs.Preview.{floats, previewOf}
 use Rattle.rules.specs.Row.{_unless_, GoesBy}
 use Rattle.rules.specs.Rules.{Bytes, IsRecord, Names, loaderRow, sheetRow, engineRow, writerRow, readerRow, diskRow, appendRow}
@@ -110,30 +109,49 @@ writer d ps b =
     row-step (ltb (length b) recordLength) 8 (λ h. above (ltb-true (length b) recordLength h)) (ltb-false (length b) recordLength)
     (λ room. checked d ps tt)
 
--- bytes that are a record are read as it
-record-valid : (bs : List ℕ) → IsRecord bs → valid (diskIn bs) (pointsIn bs) ≡ true
-record-valid bs r =
-    let read = ap readOf (r .bytes) ∙ read-written (r .disk) (r .support) (recordable-valid (r .disk) (r .support) (r .recordable)) in
-    let v = valid (diskIn bs) (pointsIn bs) in
-    let long = not-refused (not (eqb (length bs) recordLength)) 7 read in
-    not-false v (not-refused (not v) 7 (long .1) .0)
+-- the reader's checks
+module _ (bs : List ℕ) where
+  abbrev as-long : Bool
+  as-long = eqb (length bs) recordLength
 
-pub reader : (bs : List ℕ) → Bytes bs → GoesBy (readerRow bs) (readOf bs)
-reader bs bytes =
-    let v = valid (diskIn bs) (pointsIn bs) in
-    let as-long = eqb (length bs) recordLength in
-    row-step (not as-long) 7 (λ h e. fails h (eq-eqb (length bs) recordLength e)) (λ h. eqb-true (length bs) recordLength (not-false as-long h)) (λ long.
-    row-step (not v) 7 (λ h r. fails h (record-valid bs r)) (λ h. holds long (not-false v h)) (λ r. row-end (diskIn bs, pointsIn bs)))
-  where
-    holds : length bs ≡ recordLength → valid (diskIn bs) (pointsIn bs) ≡ true → IsRecord bs
-    holds long v =
-        let read : readOf bs ≡ given (diskIn bs, pointsIn bs) = rw (eq-eqb (length bs) recordLength long, v) in
-        record {
-          disk = diskIn bs;
-          support = pointsIn bs;
-          recordable = valid-recordable (diskIn bs) (pointsIn bs) v;
-          bytes = sym (written-again bs bytes (diskIn bs) (pointsIn bs) read .1);
-        }
+  abbrev agree : Bool
+  agree = eqb (countIn bs) (length (pointsIn bs))
+
+  abbrev fine : Bool
+  fine = valid (diskIn bs) (pointsIn bs)
+
+  abbrev found : Disk × List Point
+  found = (diskIn bs, pointsIn bs)
+
+  -- bytes that are a record are read as it
+  passed : IsRecord bs → (agree ≡ true) × (fine ≡ true)
+  passed r =
+      let read = ap readOf (r .bytes) ∙ read-written (r .disk) (r .support) (recordable-valid (r .disk) (r .support) (r .recordable)) in
+      let a = accepted bs (r .disk) (r .support) read in
+      (eq-eqb (countIn bs) (length (pointsIn bs)) (a .count ∙ ap length (sym (a .points))), ap₂ valid (a .disk) (a .points) ∙ a .fine)
+
+  is-record : Bytes bs → length bs ≡ recordLength → agree ≡ true → fine ≡ true → IsRecord bs
+  is-record bytes long same v =
+      let read : readOf bs ≡ given found = rw (eq-eqb (length bs) recordLength long, same, v) in
+      record {
+        disk = diskIn bs;
+        support = pointsIn bs;
+        recordable = valid-recordable (diskIn bs) (pointsIn bs) v;
+        bytes = sym (written-again bs bytes (diskIn bs) (pointsIn bs) read .1);
+      }
+
+  -- the two checks behind the length are one rule
+  behind : Bytes bs → length bs ≡ recordLength → (b : Bool) → agree ≡ b
+      → GoesBy (7 unless IsRecord bs ∷ []) (refuseIf (not b) 7 (refuseIf (not fine) 7 (given found)))
+  behind bytes long false e =
+      row-step true 7 (λ h r. true≢false (sym (passed r .0) ∙ e)) (λ h. absurd (true≢false h)) (λ r. row-end found)
+  behind bytes long true e =
+      row-step (not fine) 7 (λ h r. fails h (passed r .1)) (λ h. is-record bytes long e (not-false fine h)) (λ r. row-end found)
+
+  pub reader : Bytes bs → GoesBy (readerRow bs) (readOf bs)
+  reader bytes =
+      row-step (not as-long) 7 (λ h e. fails h (eq-eqb (length bs) recordLength e)) (λ h. eqb-true (length bs) recordLength (not-false as-long h)) (λ long.
+      behind bytes long agree refl)
 
 pub radius : (d : Disk) (ps : List Point) → GoesBy (diskRow d ps) (radiusOf d ps)
 radius d ps = checked d ps (wholeRadius d)

@@ -148,11 +148,12 @@ pub record IsRecord (bs : List ℕ) : Type 0 where
   pub recordable : Recordable disk support
   pub bytes : bs ≡ recordBytes disk support
 
--- "Writer: 8, 7."; a record has 44 bytes (record_writer/specs/Layout.antt)
+-- "Writer: 8, 7."; a record has 45 bytes (record_writer/specs/Layout.antt)
 abbrev pub writerRow : Disk → List Point → List ℕ → List Rule
 writerRow d ps buffer = 8 unless (recordLength ≤ length buffer) ∷ 7 unless Recordable d ps ∷ []
 
--- "Reader, cutting radius, preview: 7."
+-- "Reader, cutting radius, preview: 7."; "A count that disagrees with the repeats is refused as 7, as is any other length" (02, item 4): bytes with such
+-- a count are no record
 abbrev pub readerRow : List ℕ → List Rule
 readerRow bs = 7 unless (length bs ≡ recordLength) ∷ 7 unless IsRecord bs ∷ []
 

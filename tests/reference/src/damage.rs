@@ -318,7 +318,7 @@ fn damage_points(bytes: &mut [u8], random: &mut Random) {
 
 /// A disk and support set, valid or not, and a buffer of any length up to 60.
 pub fn writer(random: &mut Random) -> WriterCase {
-    let room = random.pick(&[0, 1, 43, 44, 44, 44, 45, 50, 60]);
+    let room = random.pick(&[0, 1, 44, 45, 45, 45, 46, 50, 60]);
     let disk = if random.chance(70) { valid_disk(random) } else { edge_disk(random) };
     let mut support = valid_support(random);
     match random.below(10) {

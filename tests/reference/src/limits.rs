@@ -21,4 +21,4 @@ pub const MOST_POINTS: usize = 4_096;
 pub const LIST_LENGTH: usize = 2 * MOST_POINTS;
 
 /// The bytes of a record.
-pub const RECORD_LENGTH: usize = 44;
+pub const RECORD_LENGTH: usize = 45;

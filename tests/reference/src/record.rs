@@ -1,4 +1,4 @@
-//! The record: validity, writer and reader (document 01, "Description, sheet, record").
+//! The record: validity, writer and reader (document 01, "Description, sheet, record"; document 02, item 4).
 
 use crate::geometry::{gcd, Disk, Point};
 use crate::limits::RECORD_LENGTH;
@@ -22,7 +22,7 @@ fn is_valid_support(support: &[Point]) -> bool {
     (1..=3).contains(&support.len()) && support.is_sorted_by(|a, b| a < b) && support.iter().all(|p| p.is_in_em_box())
 }
 
-/// Fills the first 44 bytes of the buffer: refusals 8, 7, and then the buffer is unchanged.
+/// Fills the first 45 bytes of the buffer: refusals 8, 7, and then the buffer is unchanged.
 pub fn write(disk: &Disk, support: &[Point], buffer: &mut [u8]) -> Result<(), Refusal> {
     let Some(place) = buffer.get_mut(..RECORD_LENGTH) else {
         return Err(Refusal::NoRoom);
@@ -32,7 +32,7 @@ pub fn write(disk: &Disk, support: &[Point], buffer: &mut [u8]) -> Result<(), Re
     Ok(())
 }
 
-/// The 44 bytes of a disk whose numbers fit 64 bits and a support set of one to three points.
+/// The 45 bytes of a disk whose numbers fit 64 bits and a support set of one to three points.
 pub fn bytes_of(disk: &Disk, support: &[Point]) -> Vec<u8> {
     let mut bytes = Vec::with_capacity(RECORD_LENGTH);
     for number in [disk.x, disk.y, disk.e, disk.s] {
@@ -44,6 +44,7 @@ pub fn bytes_of(disk: &Disk, support: &[Point]) -> Vec<u8> {
         bytes.extend_from_slice(&p.x.to_be_bytes());
         bytes.extend_from_slice(&p.y.to_be_bytes());
     }
+    bytes.push(support.len() as u8);
     bytes
 }
 
@@ -59,6 +60,9 @@ pub fn read(bytes: &[u8]) -> Result<(Disk, SupportSet), Refusal> {
         s: i128::from(word_at(bytes, 24)),
     };
     let support = without_repeats_of_the_last([32, 36, 40].map(|at| point_at(bytes, at)));
+    if usize::from(bytes[44]) != support.len() {
+        return Err(Refusal::BadRecord);
+    }
     check(&disk, &support)?;
     Ok((disk, support))
 }
@@ -96,23 +100,23 @@ mod tests {
     fn the_record_of_letter_f() {
         let mut buffer = [0xEE; 50];
         assert_eq!(write(&F, &f_support(), &mut buffer), Ok(()));
-        let mut expected = [0u8; 44];
+        let mut expected = [0u8; 45];
         (expected[7], expected[15], expected[23], expected[31]) = (12, 5, 6, 169);
-        (expected[37], expected[39], expected[41]) = (2, 3, 4);
-        assert_eq!(buffer[..44], expected);
-        assert_eq!(buffer[44..], [0xEE; 6]);
+        (expected[37], expected[39], expected[41], expected[44]) = (2, 3, 4, 3);
+        assert_eq!(buffer[..45], expected);
+        assert_eq!(buffer[45..], [0xEE; 5]);
         assert_eq!(read(&expected), Ok((F, f_support())));
     }
 
     #[test]
     fn refused_writes_change_nothing() {
-        let mut short = [1; 43];
+        let mut short = [1; 44];
         let bad = Disk { e: 0, ..F };
         assert_eq!(write(&bad, &f_support(), &mut short), Err(Refusal::NoRoom));
-        assert_eq!(short, [1; 43]);
-        let mut buffer = [1; 44];
+        assert_eq!(short, [1; 44]);
+        let mut buffer = [1; 45];
         assert_eq!(write(&bad, &f_support(), &mut buffer), Err(Refusal::BadRecord));
-        assert_eq!(buffer, [1; 44]);
+        assert_eq!(buffer, [1; 45]);
     }
 
     #[test]
@@ -134,14 +138,21 @@ mod tests {
     }
 
     #[test]
-    fn only_the_last_point_is_repeated() {
+    fn only_the_last_point_is_repeated_and_the_count_agrees() {
         let [a, b, c] = [Point::new(0, 0), Point::new(0, 1), Point::new(1, -1)];
-        let bytes = |points: [Point; 3]| bytes_of(&F, &points);
-        assert_eq!(read(&bytes([a, b, c])).unwrap().1, [a, b, c]);
-        assert_eq!(read(&bytes([a, b, b])).unwrap().1, [a, b]);
-        assert_eq!(read(&bytes([b, b, b])).unwrap().1, [b]);
-        for faulty in [[a, a, b], [a, b, a], [b, a, a], [c, b, a], [a, c, b]] {
-            assert_eq!(read(&bytes(faulty)), Err(Refusal::BadRecord));
+        let counted = |points: [Point; 3], count: u8| {
+            let mut bytes = bytes_of(&F, &points);
+            bytes[44] = count;
+            read(&bytes).map(|(_, support)| support)
+        };
+        for count in 0..=255 {
+            let only = |n, support: &[Point]| if count == n { Ok(support.to_vec()) } else { Err(Refusal::BadRecord) };
+            assert_eq!(counted([a, b, c], count), only(3, &[a, b, c]));
+            assert_eq!(counted([a, b, b], count), only(2, &[a, b]));
+            assert_eq!(counted([b, b, b], count), only(1, &[b]));
+            for faulty in [[a, a, b], [a, b, a], [b, a, a], [c, b, a], [a, c, b]] {
+                assert_eq!(counted(faulty, count), Err(Refusal::BadRecord));
+            }
         }
     }
 }

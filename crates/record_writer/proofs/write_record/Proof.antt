@@ -8,8 +8,8 @@ use lib.ListN.{length}
 use lib.Seq.{sets}
 use Rattle.validity.proofs.ValidLaws.{members-counted}
 use Rattle.geometry.specs.Plane.{members}
-use Rattle.record_writer.specs.Layout.{recordLength, firstAt}
-use Rattle.record_writer.specs.Bytes.{pointsBytes, madeThree}
+use Rattle.record_writer.specs.Layout.{recordLength, firstAt, countAt}
+use Rattle.record_writer.specs.Bytes.{pointsBytes, madeThree, countBytes}
 use Rattle.record_writer.proofs.ByteLaws.{record-stored}
 use Rattle.record_writer.proofs.write_record.Statement.{statement}
 use Rattle.record_writer.proofs.write_record.Tie as tie
@@ -26,12 +26,16 @@ put-disk-requires c κs = search needs
 put-points-requires : tie.Need-put-points-requires
 put-points-requires c κs = search needs
 
+put-count-requires : tie.Need-put-count-requires
+put-count-requires c κs = search needs
+
 same-length : tie.Need-same-length
 same-length c = search needs
 
 returns-2 : tie.Need-returns-2
 returns-2 c =
-    let points = c .before .before in
+    let count = c .before .before in
+    let points = count .before .before .before .before in
     let disk = points .before .before .before .before in
     let then2 = disk .before .before in
     let s = then2 .before .before .before .before in
@@ -42,8 +46,9 @@ returns-2 c =
     let ok = sym (then2 .before .is-valid .ensures) ∙ then2 .if2 .taken in (
       rw (long, ok),
       rw (long, ok)
-          (points .put-points .ensures
-          ∙ ap (λ (m : List ℕ). sets m firstAt (pointsBytes (madeThree (members t)))) (disk .put-disk .ensures)
+          (count .put-count .ensures
+          ∙ ap (λ (m : List ℕ). sets m countAt (countBytes (members t)))
+          (points .put-points .ensures ∙ ap (λ (m : List ℕ). sets m firstAt (pointsBytes (madeThree (members t)))) (disk .put-disk .ensures))
           ∙ record-stored l d (members t) (members-counted t) (then2 .before .before .if1 .left)),
     )
 
@@ -60,6 +65,7 @@ write-record-spec =
     is-valid-requires
     put-disk-requires
     put-points-requires
+    put-count-requires
     same-length
     returns-2
     returns-3)

@@ -38,9 +38,9 @@ fn writing(
 }
 
 pub fn writings() -> Vec<Writing> {
-    let letters = LETTERS.iter().map(|l| writing("X Y E S; rim; R", 44, l.disk, l.support, Ok(()), Ok(l.radius)));
-    let valid = VALID.iter().map(|&(says, numbers, support, radius)| writing(says, 44, numbers, support, Ok(()), Ok(radius)));
-    let faulty = FAULTY.iter().map(|&(says, numbers, support)| writing(says, 44, numbers, support, Err(7), Err(7)));
+    let letters = LETTERS.iter().map(|l| writing("X Y E S; rim; R", 45, l.disk, l.support, Ok(()), Ok(l.radius)));
+    let valid = VALID.iter().map(|&(says, numbers, support, radius)| writing(says, 45, numbers, support, Ok(()), Ok(radius)));
+    let faulty = FAULTY.iter().map(|&(says, numbers, support)| writing(says, 45, numbers, support, Err(7), Err(7)));
     letters.chain(valid).chain(faulty).chain(rooms()).chain(squares()).collect()
 }
 
@@ -84,12 +84,13 @@ const FAULTY: [(&str, Numbers, &[(i16, i16)]); 26] = [
 
 /// Letter F, and a disk with E 0, into buffers of other lengths.
 fn rooms() -> impl Iterator<Item = Writing> {
-    let says = "8: a writer's buffer under 44 bytes. Writer: 8, 7. The writer fills the first 44 bytes and leaves the rest";
+    let says = "8, 7. The writer fills the first 45 bytes and leaves the rest; its buffer must have 45 bytes (02, item 4)";
     let rows = [
         (0, F, Err(8), Ok(3)),
         (0, FAULTY[0].1, Err(8), Err(7)),
-        (43, F, Err(8), Ok(3)),
-        (43, FAULTY[0].1, Err(8), Err(7)),
+        (44, F, Err(8), Ok(3)),
+        (44, FAULTY[0].1, Err(8), Err(7)),
+        (46, F, Ok(()), Ok(3)),
         (50, F, Ok(()), Ok(3)),
         (50, FAULTY[0].1, Err(7), Err(7)),
     ];
@@ -109,7 +110,7 @@ fn beside_square(r: u64, x: i128, e: i128) -> impl Iterator<Item = Writing> {
     let square = (i128::from(r) * e).pow(2);
     let above = if (r, e) == (0, 1) { 2 } else { r + 1 };
     let rows = [(square - 1, r), (square, r + 1), (square + 1, above)].into_iter().filter(|&(s, _)| s >= 0);
-    rows.map(move |(s, radius)| writing(says, 44, (x, 0, e, s), &[(0, 0)], Ok(()), Ok(radius)))
+    rows.map(move |(s, radius)| writing(says, 45, (x, 0, e, s), &[(0, 0)], Ok(()), Ok(radius)))
 }
 
 type Reading = Edge<Vec<u8>, Answer<(Disk, SupportSet)>>;
@@ -121,7 +122,7 @@ pub fn readings() -> Vec<Reading> {
     let written = letters.map(|(numbers, support)| {
         let given = record::bytes_of(&disk(numbers), &points(support));
         Edge {
-            says: "44 bytes, high byte first; if there are one or two, the last is repeated to make three",
+            says: "45 bytes, high byte first; if there are one or two, the last is repeated to make three",
             given,
             gives: read(numbers, support),
         }
@@ -131,13 +132,31 @@ pub fn readings() -> Vec<Reading> {
         given: f_record(changes),
         gives: gives.map(|(numbers, support)| (disk(numbers), points(support))),
     });
-    let lengths = [0, 43, 44, 45, 50].map(|length| {
+    let lengths = [0, 43, 44, 45, 46, 50].map(|length| {
         let mut given = f_record(&[]);
         given.resize(length, 0);
-        Edge { says: "7: a record not of 44 bytes", given, gives: if length == 44 { read(F, F_POINTS) } else { Err(7) } }
+        Edge { says: "7: any other length (02, item 4)", given, gives: if length == 45 { read(F, F_POINTS) } else { Err(7) } }
     });
-    let unwritten = Edge { says: "7: a record .. not valid", given: vec![0xAA; 44], gives: Err(7) };
-    written.chain(changed).chain(lengths).chain([unwritten]).collect()
+    let unwritten = Edge { says: "7: a record .. not valid", given: vec![0xAA; 45], gives: Err(7) };
+    written.chain(changed).chain(lengths).chain([unwritten]).chain(counts()).collect()
+}
+
+/// Every value of the last byte against every kind of repeats.
+fn counts() -> impl Iterator<Item = Reading> {
+    let says = "1, 2 or 3. A count that disagrees with the repeats is refused as 7 (02, item 4)";
+    let kinds: [([(i16, i16); 3], Option<u8>); 4] = [
+        ([(2, 3), (2, 3), (2, 3)], Some(1)),
+        ([(0, 0), (2, 3), (2, 3)], Some(2)),
+        ([(0, 0), (2, 3), (4, 0)], Some(3)),
+        ([(0, 0), (0, 0), (4, 0)], None),
+    ];
+    let every = kinds.into_iter().flat_map(|(three, meant)| (0..=255).map(move |count| (three, meant, count)));
+    every.map(move |(three, meant, count)| {
+        let mut given = record::bytes_of(&disk(F), &points(&three));
+        given[44] = count;
+        let gives = if meant == Some(count) { Ok((disk(F), points(&three[..count.into()]))) } else { Err(7) };
+        Edge { says, given, gives }
+    })
 }
 
 /// The record of letter F with new bytes at some places.
@@ -148,7 +167,7 @@ fn f_record(changes: &[(usize, u8)]) -> Vec<u8> {
 }
 
 #[rustfmt::skip]
-const CHANGED: [(&str, &[(usize, u8)], Answer<(Numbers, &[(i16, i16)])>); 24] = [
+const CHANGED: [(&str, &[(usize, u8)], Answer<(Numbers, &[(i16, i16)])>); 26] = [
     ("no change", &[(0, 0)], Ok((F, F_POINTS))),
     ("the centre in the em box: X negative", &[(0, 0x80)], Err(7)),
     ("the centre in the em box: X beyond", &[(6, 0x18)], Err(7)),
@@ -172,5 +191,7 @@ const CHANGED: [(&str, &[(usize, u8)], Answer<(Numbers, &[(i16, i16)])>); 24] = 
     ("corners in the em box: the third y negative", &[(42, 0xFF)], Err(7)),
     ("corners in the em box: the third y least", &[(42, 0x80)], Err(7)),
     ("the last is repeated: no other may be", &[(37, 0), (39, 0)], Err(7)),
-    ("the last is repeated: the second here", &[(37, 4), (39, 0)], Ok((F, &[(0, 0), (4, 0)]))),
+    ("the last is repeated: no other may be, whatever the count", &[(37, 0), (39, 0), (44, 2)], Err(7)),
+    ("the last is repeated: the second here, with its count", &[(37, 4), (39, 0), (44, 2)], Ok((F, &[(0, 0), (4, 0)]))),
+    ("the last is repeated: the second here, with the count of three", &[(37, 4), (39, 0)], Err(7)),
 ];
