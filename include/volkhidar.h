@@ -24,8 +24,9 @@
  *                  4   more than 4,096 points
  *                  5   no point
  *                  6   sheet shorter than its directory, or its pairs break the rules
- *                  7   a record of another length, or not valid; a disk and support set that a valid record could not hold
- *                  8   a list under 8,192 numbers; a buffer under 44 bytes
+ *                  7   a record of another length than 45 bytes, with another count than its points have, or not valid;
+ *                      a disk and support set that a valid record could not hold
+ *                  8   a list under 8,192 numbers; a buffer under 45 bytes
  *                  9   a point list of odd length
  *                 10   glyph number not below the count
  *                 11   a NaN, an infinity or a float with a fraction in a point's x or y
@@ -46,7 +47,7 @@ extern "C" {
 #define VOLKHIDAR_MOST_BYTES 65535   /* of a description or a sheet */
 #define VOLKHIDAR_MOST_POINTS 4096   /* of a point list */
 #define VOLKHIDAR_LIST_LENGTH 8192   /* least length of the list that volkhidar_load and volkhidar_append_point are lent */
-#define VOLKHIDAR_RECORD_LENGTH 44   /* of a record, in bytes */
+#define VOLKHIDAR_RECORD_LENGTH 45   /* of a record, in bytes */
 
 /* A point of the em box: x from 0 to 1000, y from -250 to 750. */
 typedef struct {
@@ -165,21 +166,23 @@ volkhidar_radius_answer volkhidar_whole_radius(volkhidar_disk disk, volkhidar_su
 volkhidar_preview_answer volkhidar_preview(volkhidar_disk disk, volkhidar_support support);
 
 /*
- * Writes the record of a disk and its support set into the first 44 bytes of `buffer`; the rest stays. Returns 0 or the refusal.
- * Refusals, in this order: 8 for a buffer under 44 bytes; 7. That the points belong to the disk is not checked.
+ * Writes the record of a disk and its support set into the first 45 bytes of `buffer`; the rest stays. Returns 0 or the refusal.
+ * The record has three points, the last repeated where there are fewer, and in its last byte how many are meant: 1, 2 or 3.
+ * Refusals, in this order: 8 for a buffer under 45 bytes; 7. That the points belong to the disk is not checked.
  */
 uint64_t volkhidar_write_record(volkhidar_disk disk, volkhidar_support support, uint8_t *buffer, size_t buffer_length);
 
 /*
  * Reads a record. What volkhidar_write_record wrote is read back, and what is read, written again, gives its own bytes.
- * Refusal: 7. That the points belong to the disk is not checked.
+ * Refusal: 7, for bytes of another length and for a count that disagrees with the repeats, too. That the points belong to the disk is
+ * not checked.
  */
 volkhidar_record_answer volkhidar_read_record(const uint8_t *bytes, size_t length);
 
 /*
  * From a description to its record in one call: volkhidar_load, volkhidar_smallest_disk on the points that it found, and
- * volkhidar_write_record of what that gave. The first 44 bytes of `buffer` are written and the rest stays. Returns 0 or the refusal.
- * Refusals, in this order: 8 for a buffer under 44 bytes; then those of volkhidar_load for the description.
+ * volkhidar_write_record of what that gave. The first 45 bytes of `buffer` are written and the rest stays. Returns 0 or the refusal.
+ * Refusals, in this order: 8 for a buffer under 45 bytes; then those of volkhidar_load for the description.
  */
 uint64_t volkhidar_record_of(const uint8_t *text, size_t text_length, uint8_t *buffer, size_t buffer_length);
 

@@ -45,7 +45,7 @@ pub const MOST_POINTS: usize = 4_096;
 pub const LIST_LENGTH: usize = 8_192;
 
 /// The bytes of a record.
-pub const RECORD_LENGTH: usize = 44;
+pub const RECORD_LENGTH: usize = 45;
 
 /// Reads a description: a point a line, "x y" in decimal, each number of 1 to 4 digits with one plus, one minus or no sign before them.
 /// The points go to the front of the list in the order of the lines, x and y by turns, and the rest of the list stays; the answer is how
@@ -179,8 +179,9 @@ pub fn preview(disk: Disk, support: SupportSet) -> Result<Preview, Refusal> {
     Ok(Preview { x: answer.x, y: answer.y, radius: answer.radius })
 }
 
-/// Writes the record of a disk and its support set into the first [`RECORD_LENGTH`] bytes of the buffer; the rest stays. Whether the
-/// points belong to the disk is not checked.
+/// Writes the record of a disk and its support set into the first [`RECORD_LENGTH`] bytes of the buffer; the rest stays. The record
+/// has three points, the last repeated where there are fewer, and in its last byte how many are meant: 1, 2 or 3. Whether the points
+/// belong to the disk is not checked.
 ///
 /// Refuses, in this order: [`Refusal::NoRoom`] for a shorter buffer; [`Refusal::BadRecord`].
 ///
@@ -188,11 +189,11 @@ pub fn preview(disk: Disk, support: SupportSet) -> Result<Preview, Refusal> {
 /// use volkhidar::{write_record, Disk, Point, Refusal, SupportSet};
 ///
 /// let (disk, support) = (Disk { x: 7, y: 7, e: 1, s: 0 }, SupportSet::One(Point { x: 7, y: 7 }));
-/// let mut buffer = [0xEE; 45];
+/// let mut buffer = [0xEE; 46];
 /// assert_eq!(write_record(disk, support, &mut buffer), Ok(()));
 /// assert_eq!(buffer[..8], [0, 0, 0, 0, 0, 0, 0, 7]);
-/// assert_eq!(buffer[44], 0xEE);
-/// assert_eq!(write_record(disk, support, &mut buffer[..43]), Err(Refusal::NoRoom));
+/// assert_eq!(buffer[44..], [1, 0xEE]);
+/// assert_eq!(write_record(disk, support, &mut buffer[..44]), Err(Refusal::NoRoom));
 /// ```
 pub fn write_record(disk: Disk, support: SupportSet, buffer: &mut [u8]) -> Result<(), Refusal> {
     checked(unsafe { raw::volkhidar_write_record(disk, support.into(), buffer.as_mut_ptr(), buffer.len()) })
@@ -201,12 +202,18 @@ pub fn write_record(disk: Disk, support: SupportSet, buffer: &mut [u8]) -> Resul
 /// Reads a record: what [`write_record`] wrote is read back, and what is read, written again, gives its own bytes. Whether the points
 /// belong to the disk is not checked.
 ///
-/// Refuses any other bytes: [`Refusal::BadRecord`].
+/// Refuses any other bytes: [`Refusal::BadRecord`], for another length and for a count that disagrees with the repeats, too.
 ///
 /// ```
-/// use volkhidar::{read_record, Refusal};
+/// use volkhidar::{read_record, record_of, Point, Refusal, SupportSet, RECORD_LENGTH};
 ///
-/// assert_eq!(read_record(&[0; 44]), Err(Refusal::BadRecord));
+/// let mut record = [0; RECORD_LENGTH];
+/// record_of(b"0 0\n3 0\n", &mut record)?;
+/// assert_eq!(read_record(&record)?.1, SupportSet::Two(Point { x: 0, y: 0 }, Point { x: 3, y: 0 }));
+/// assert_eq!(read_record(&record[..44]), Err(Refusal::BadRecord));
+/// record[44] = 3;
+/// assert_eq!(read_record(&record), Err(Refusal::BadRecord));
+/// # Ok::<(), Refusal>(())
 /// ```
 pub fn read_record(bytes: &[u8]) -> Result<(Disk, SupportSet), Refusal> {
     let answer = unsafe { raw::volkhidar_read_record(bytes.as_ptr(), bytes.len()) };

@@ -102,10 +102,10 @@ mod tests {
     fn sizes_that_no_support_set_has() {
         let disk = Disk { x: 0, y: 0, e: 1, s: 0 };
         for size in [0, 4, 5, 256, u64::MAX] {
-            let mut buffer = [0xEE; 44];
+            let mut buffer = [0xEE; 45];
             let mut write = |length| unsafe { volkhidar_write_record(disk, no_set(size), buffer.as_mut_ptr(), length) };
-            assert_eq!((write(44), write(43)), (7, 8));
-            assert_eq!(buffer, [0xEE; 44]);
+            assert_eq!((write(45), write(44)), (7, 8));
+            assert_eq!(buffer, [0xEE; 45]);
             assert_eq!(unsafe { volkhidar_whole_radius(disk, no_set(size)) }.refusal, 7);
             assert_eq!(unsafe { volkhidar_preview(disk, no_set(size)) }.refusal, 7);
         }

@@ -1,3 +1,4 @@
 pub mod Letters
 pub mod Descriptions
 pub mod Drawings
+pub mod Records

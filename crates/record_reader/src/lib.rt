@@ -76,13 +76,24 @@ fn get_points(bytes: &[u8]) -> SupportSet
     without_repeats(a, b, c)
 }
 
+// How many points there are.
+fn count(t: SupportSet) -> u64
+    ensures { λ r. ⌜ r ≡ length (members t) ⌝ }
+{
+    match t {
+        SupportSet::One(_) => 1,
+        SupportSet::Two(_, _) => 2,
+        SupportSet::Three(_, _, _) => 3,
+    }
+}
+
 // Whether the count at the record's end is that of the points.
 fn count_agrees(bytes: &[u8], t: SupportSet) -> bool
     requires { ⌜ recordLength ≤ length (now bytes) ⌝ }
     ensures { λ r. ⌜ r ≡ eqb (countIn (now (bytes .entry))) (length (members t)) ⌝ }
 {
     let written = big_endian::get_at(bytes, record_writer::COUNT_AT, record_writer::COUNT_WIDTH);
-    let meant = record_writer::count(t);
+    let meant = count(t);
     written == meant
 }
 

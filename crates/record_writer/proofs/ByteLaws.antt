@@ -3,27 +3,27 @@
 --   diskBytes-length, pointBytes-length, pointsBytes-length : those of the layout
 --   not-four              : one to three points are no more
 --   madeThree-length      : one to three points are made three
---   threeBytes-length     : and these have the bytes between the disk and the count
 --   recordBytes-length    : a record has `recordLength` bytes
---   three-stored          : three points stored one by one are stored together
---   record-stored         : the disk, the points and the count stored are the record in front, and the rest as it was
+--   three-stored          : three points and a count stored one by one are stored together
+--   record-stored         : the disk, then the points with their count stored are the record in front, and the rest as it was
 use mathlib.Core.Path.{_≡_, refl, sym, ap, ap₂, _∙_, subst}
 use mathlib.Core.Bool.{true, true≢false}
-use mathlib.Core.List.{List, [], _∷_, _++_, append-nil}
+use mathlib.Core.List.{List, [], _∷_, _++_, append-nil, append-assoc}
 use Prim.Native.Nat.{ℕ, suc, _+_, _*_, _≤_}
 use native.Mathlib.Omega.{arith}
 use borrow.Author.Tests.{leb-true}
 use lib.Dec.{leb}
 use lib.ListN.{length, length-append, drop}
 use lib.Seq.{sets, sets-eq}
+use Rattle.big_endian.specs.Fields.{bytesOf, put}
 use Rattle.big_endian.proofs.ByteLists.{bytesOf-length}
 use Rattle.integers.proofs.Tests.{rest}
 use Rattle.geometry.specs.declared.Point.{Point}
 use Rattle.geometry.specs.declared.Disk.{Disk}
 use Rattle.validity.specs.Valid.{oneToThree}
-use Rattle.record_writer.specs.Layout.{recordLength, firstAt, pointWidth, xAt, secondAt, thirdAt, countAt}
+use Rattle.record_writer.specs.Layout.{recordLength, firstAt, pointWidth, countWidth, xAt, secondAt, thirdAt, countAt}
 use Rattle.record_writer.specs.Bytes.{diskBytes, pointBytes, pointsBytes, madeThree, countBytes, recordBytes}
-use Rattle.big_endian.proofs.Stores.{sets-append}
+use Rattle.big_endian.proofs.Stores.{sets-append, put-next}
 
 pub diskBytes-length : (d : Disk) → length (diskBytes d) ≡ firstAt
 diskBytes-length d = simp (length-append, bytesOf-length)
@@ -51,34 +51,35 @@ madeThree-length (a ∷ b ∷ []) h = refl
 madeThree-length (a ∷ b ∷ c ∷ []) h = refl
 madeThree-length (a ∷ b ∷ c ∷ p ∷ ps) h = absurd (not-four a b c p ps h)
 
-pub threeBytes-length : (ps : List Point) → oneToThree ps ≡ true → length (pointsBytes (madeThree ps)) ≡ 3 * pointWidth
-threeBytes-length ps h = pointsBytes-length (madeThree ps) ∙ ap (λ (n : ℕ). pointWidth * n) (madeThree-length ps h)
-
 pub recordBytes-length : (d : Disk) (ps : List Point) → oneToThree ps ≡ true → length (recordBytes d ps) ≡ recordLength
 unfolding recordBytes
-recordBytes-length d ps h = simp (length-append, bytesOf-length, threeBytes-length ps h)
+recordBytes-length d ps h =
+    let three = pointsBytes-length (madeThree ps) ∙ ap (λ (n : ℕ). pointWidth * n) (madeThree-length ps h) in
+    simp (length-append, bytesOf-length, three)
 
 -- ---- stored in a buffer
 
-pub three-stored : (l : List ℕ) (a b c : Point)
-    → sets (sets (sets l firstAt (pointBytes a)) secondAt (pointBytes b)) thirdAt (pointBytes c) ≡ sets l firstAt (pointsBytes (a ∷ b ∷ c ∷ []))
-three-stored l a b c =
+pub three-stored : (l : List ℕ) (a b c : Point) (n : ℕ)
+    → put countWidth n countAt (sets (sets (sets l firstAt (pointBytes a)) secondAt (pointBytes b)) thirdAt (pointBytes c))
+    ≡ sets l firstAt (pointsBytes (a ∷ b ∷ c ∷ []) ++ bytesOf countWidth n)
+three-stored l a b c n =
     let p = pointBytes a in
     let q = pointBytes b in
     let r = pointBytes c in
+    let three = pointsBytes (a ∷ b ∷ c ∷ []) in
+    let points : sets (sets (sets l firstAt p) secondAt q) thirdAt r ≡ sets l firstAt three =
     ap (sets (sets (sets l firstAt p) secondAt q) thirdAt) (sym (append-nil r))
     ∙ sym (sets-append (sets l firstAt p) secondAt q (r ++ []) pointWidth (pointBytes-length b))
-    ∙ sym (sets-append l firstAt p (q ++ (r ++ [])) pointWidth (pointBytes-length a))
+    ∙ sym (sets-append l firstAt p (q ++ (r ++ [])) pointWidth (pointBytes-length a)) in
+    ap (put countWidth n countAt) points ∙ put-next countWidth n l firstAt three (3 * pointWidth) (pointsBytes-length (a ∷ b ∷ c ∷ []))
 
 pub record-stored : (l : List ℕ) (d : Disk) (ps : List Point) → oneToThree ps ≡ true → recordLength ≤ length l
-    → sets (sets (sets l xAt (diskBytes d)) firstAt (pointsBytes (madeThree ps))) countAt (countBytes ps) ≡ recordBytes d ps ++ drop recordLength l
+    → sets (sets l xAt (diskBytes d)) firstAt (pointsBytes (madeThree ps) ++ countBytes ps) ≡ recordBytes d ps ++ drop recordLength l
 unfolding recordBytes
 record-stored l d ps h room =
     let e : length (recordBytes d ps) ≡ recordLength = recordBytes-length d ps h in
-    let three = pointsBytes (madeThree ps) in
-    let front = diskBytes d ++ three in
-    let both : length front ≡ countAt = length-append (diskBytes d) three ∙ ap₂ _+_ (diskBytes-length d) (threeBytes-length ps h) in
-    ap (λ (m : List ℕ). sets m countAt (countBytes ps)) (sym (sets-append l xAt (diskBytes d) three firstAt (diskBytes-length d)))
-    ∙ sym (sets-append l xAt front (countBytes ps) countAt both)
+    let behind = pointsBytes (madeThree ps) ++ countBytes ps in
+    sym (sets-append l xAt (diskBytes d) behind firstAt (diskBytes-length d))
+    ∙ ap (sets l xAt) (sym (append-assoc (diskBytes d) (pointsBytes (madeThree ps)) (countBytes ps)))
     ∙ sets-eq (recordBytes d ps) l xAt (subst (λ (n : ℕ). xAt + n ≤ length l) (sym e) room)
     ∙ ap (λ (n : ℕ). recordBytes d ps ++ drop (xAt + n) l) e

@@ -4,7 +4,7 @@
 --   diskBytes d        == X, Y (signed), E, S
 --   pointsBytes ps     == x and y of each point, signed
 --   madeThree ps       == three points: if there are one or two, the last is repeated
---   countBytes ps      == how many points there are
+--   countBytes ps      == how many points there are (02: the rim count)
 --   recordBytes d ps   == the record of the disk d and the points ps
 use mathlib.Core.List.{List, [], _∷_, _++_}
 use Prim.Native.Nat.{ℕ}

@@ -1,11 +1,12 @@
 // The record's layout (01, "Description, sheet, record"; 02, item 4: 45 bytes), and the record writer.
 ghost use mathlib.Core.Path.{_≡_};
-ghost use mathlib.Core.List.{[], _∷_};
+ghost use mathlib.Core.List.{[], _∷_, _++_};
 ghost use Prim.Native.Nat.{_+_, _≤_};
 ghost use lib.ListN.{length};
 ghost use lib.Seq.{sets};
+ghost use Rattle.big_endian.specs.Fields.{bytesOf};
 ghost use Rattle.geometry.specs.Plane.{members};
-ghost use Rattle.record_writer.specs.Layout.{xAt, firstAt, pointWidth, countAt, recordLength};
+ghost use Rattle.record_writer.specs.Layout.{xAt, firstAt, pointWidth, countWidth, recordLength};
 ghost use Rattle.record_writer.specs.Bytes.{diskBytes, pointBytes, pointsBytes, madeThree, countBytes};
 ghost use Rattle.record_writer.specs.Writing.{writeOf, bufferAfter, outcome};
 use answers::Refusal;
@@ -70,44 +71,27 @@ fn put_point(buf: &mut [u8], at: usize, p: Point)
     );
 }
 
-fn put_three(buf: &mut [u8], a: Point, b: Point, c: Point)
+// Three points, and how many of them are meant.
+fn put_three(buf: &mut [u8], a: Point, b: Point, c: Point, n: u64)
     requires { ⌜ recordLength ≤ length (now buf) ⌝ }
-    ensures { λ _. ⌜ now (buf .exit) ≡ sets (now (buf .entry)) firstAt (pointsBytes (a ∷ b ∷ c ∷ [])) ⌝ }
+    ensures { λ _. ⌜ now (buf .exit) ≡ sets (now (buf .entry)) firstAt (pointsBytes (a ∷ b ∷ c ∷ []) ++ bytesOf countWidth n) ⌝ }
 {
     put_point(buf, FIRST_AT, a);
     put_point(buf, SECOND_AT, b);
     put_point(buf, THIRD_AT, c);
+    big_endian::put_at(buf, COUNT_AT, COUNT_WIDTH, n);
 }
 
-// Three points; the last is repeated where there are fewer.
+// Three points, the last repeated where there are fewer, and their count.
 fn put_points(buf: &mut [u8], t: SupportSet)
     requires { ⌜ recordLength ≤ length (now buf) ⌝ }
-    ensures { λ _. ⌜ now (buf .exit) ≡ sets (now (buf .entry)) firstAt (pointsBytes (madeThree (members t))) ⌝ }
+    ensures { λ _. ⌜ now (buf .exit) ≡ sets (now (buf .entry)) firstAt (pointsBytes (madeThree (members t)) ++ countBytes (members t)) ⌝ }
 {
     match t {
-        SupportSet::One(a) => put_three(buf, a, a, a),
-        SupportSet::Two(a, b) => put_three(buf, a, b, b),
-        SupportSet::Three(a, b, c) => put_three(buf, a, b, c),
+        SupportSet::One(a) => put_three(buf, a, a, a, 1),
+        SupportSet::Two(a, b) => put_three(buf, a, b, b, 2),
+        SupportSet::Three(a, b, c) => put_three(buf, a, b, c, 3),
     }
-}
-
-// How many points there are.
-pub fn count(t: SupportSet) -> u64
-    ensures { λ r. ⌜ r ≡ length (members t) ⌝ }
-{
-    match t {
-        SupportSet::One(_) => 1,
-        SupportSet::Two(_, _) => 2,
-        SupportSet::Three(_, _, _) => 3,
-    }
-}
-
-fn put_count(buf: &mut [u8], t: SupportSet)
-    requires { ⌜ recordLength ≤ length (now buf) ⌝ }
-    ensures { λ _. ⌜ now (buf .exit) ≡ sets (now (buf .entry)) countAt (countBytes (members t)) ⌝ }
-{
-    let n = count(t);
-    big_endian::put_at(buf, COUNT_AT, COUNT_WIDTH, n);
 }
 
 // Writes the record of d and t to the first bytes of buf and leaves the rest.
@@ -121,7 +105,6 @@ pub fn write_record(d: Disk, t: SupportSet, buf: &mut [u8]) -> Written
     if validity::is_valid(d, t) {
         put_disk(buf, d);
         put_points(buf, t);
-        put_count(buf, t);
         return Written::Done;
     }
     Written::Refused(Refusal::BadRecord)

@@ -238,7 +238,7 @@ pub fn part(random: &mut Random) -> PartCase {
 
 // ---- records
 
-/// A record: valid in about half of the cases, otherwise wrong in a field, in its points' order or in its length.
+/// A record: valid in about half of the cases, otherwise wrong in a field, in its points' order, in their count or in its length.
 pub fn record(random: &mut Random) -> Vec<u8> {
     let mut bytes = record::bytes_of(&valid_disk(random), &valid_support(random));
     match random.below(12) {
@@ -248,8 +248,9 @@ pub fn record(random: &mut Random) -> Vec<u8> {
             let at = random.below(bytes.len());
             bytes[at] ^= 1 << random.below(8);
         }
-        3 => bytes.resize(random.pick(&[0, 1, 43, 45, 88]), 0),
+        3 => bytes.resize(random.pick(&[0, 1, 44, 46, 90]), 0),
         4 => bytes = record::bytes_of(&edge_disk(random), &valid_support(random)),
+        5 => bytes[44] = random.pick(&[0, 1, 2, 3, 4, 255]),
         _ => (),
     }
     bytes
@@ -300,7 +301,7 @@ fn damage_word(bytes: &mut [u8], random: &mut Random) {
     bytes[at..at + 8].copy_from_slice(&new.to_be_bytes());
 }
 
-/// Two points swapped, one copied over another, or a coordinate outside the em box or near its edge.
+/// Two points swapped, one copied over another, or a coordinate outside the em box or near its edge; then, in half of the cases, any count.
 fn damage_points(bytes: &mut [u8], random: &mut Random) {
     let (i, j) = (32 + 4 * random.below(3), 32 + 4 * random.below(3));
     match random.below(3) {
@@ -311,6 +312,9 @@ fn damage_points(bytes: &mut [u8], random: &mut Random) {
             let edge: i16 = random.pick(&[LEFT - 1, LEFT, RIGHT, RIGHT + 1, FOOT, FOOT - 1, TOP, TOP + 1, i16::MIN, i16::MAX]);
             bytes[at..at + 2].copy_from_slice(&edge.to_be_bytes());
         }
+    }
+    if random.chance(50) {
+        bytes[44] = 1 + random.below(3) as u8;
     }
 }
 

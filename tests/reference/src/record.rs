@@ -34,7 +34,12 @@ pub fn write(disk: &Disk, support: &[Point], buffer: &mut [u8]) -> Result<(), Re
 
 /// The 45 bytes of a disk whose numbers fit 64 bits and a support set of one to three points.
 pub fn bytes_of(disk: &Disk, support: &[Point]) -> Vec<u8> {
-    let mut bytes = Vec::with_capacity(RECORD_LENGTH);
+    [disk_and_points(disk, support), vec![support.len() as u8]].concat()
+}
+
+/// The bytes before the count of points.
+pub fn disk_and_points(disk: &Disk, support: &[Point]) -> Vec<u8> {
+    let mut bytes = Vec::new();
     for number in [disk.x, disk.y, disk.e, disk.s] {
         // The low 64 bits: signed numbers in two's complement.
         bytes.extend_from_slice(&number.to_be_bytes()[8..]);
@@ -44,7 +49,6 @@ pub fn bytes_of(disk: &Disk, support: &[Point]) -> Vec<u8> {
         bytes.extend_from_slice(&p.x.to_be_bytes());
         bytes.extend_from_slice(&p.y.to_be_bytes());
     }
-    bytes.push(support.len() as u8);
     bytes
 }
 

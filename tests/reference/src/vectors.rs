@@ -187,11 +187,11 @@ fn figures_printed(disk: &Disk, support: &[Point]) -> String {
     whole + &preview
 }
 
-/// The buffer's length and the number of points, a byte each, then a record's bytes, its points with repeats of the last. The buffer
+/// The buffer's length and the number of points, a byte each, then a record's disk and points, the last repeated. The buffer
 /// holds 238 everywhere before the call; its checksum after it is printed.
 pub fn writer(case: &WriterCase) -> Vector {
     let count = case.support.len() as u8;
-    let bytes = [vec![case.room, count], record::bytes_of(&case.disk, &case.support)].concat();
+    let bytes = [vec![case.room, count], record::disk_and_points(&case.disk, &case.support)].concat();
     let mut buffer = vec![238; case.room.into()];
     let written = match record::write(&case.disk, &case.support, &mut buffer) {
         Ok(()) => "written\n".to_string(),

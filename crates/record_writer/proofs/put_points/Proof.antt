@@ -1,5 +1,5 @@
--- `record_writer::put_points` meets its contract: each case's three points are those of `madeThree`.
-use mathlib.Core.List.{List}
+-- `record_writer::put_points` meets its contract: each case's three points are those of `madeThree`, and its count is theirs.
+use mathlib.Core.List.{List, _++_}
 use mathlib.Core.Path.{_≡_, sym, ap, _∙_}
 use Prim.Native.Nat.{ℕ}
 use borrow.Author.Needs.{needs}
@@ -7,13 +7,16 @@ use lib.Seq.{sets}
 use Rattle.record_writer.specs.Layout.{firstAt}
 use Rattle.geometry.specs.declared.SupportSet.{SupportSet}
 use Rattle.geometry.specs.Plane.{members}
-use Rattle.record_writer.specs.Bytes.{pointsBytes, madeThree}
+use Rattle.record_writer.specs.Bytes.{pointsBytes, madeThree, countBytes}
 use Rattle.record_writer.proofs.put_points.Statement.{statement}
 use Rattle.record_writer.proofs.put_points.Tie as tie
 
+abbrev stored : List ℕ → SupportSet → List ℕ
+stored l t = sets l firstAt (pointsBytes (madeThree (members t)) ++ countBytes (members t))
+
 -- a support set known by its case
-known : (l : List ℕ) {t u : SupportSet} → t ≡ u → sets l firstAt (pointsBytes (madeThree (members u))) ≡ sets l firstAt (pointsBytes (madeThree (members t)))
-known l e = ap (λ (v : SupportSet). sets l firstAt (pointsBytes (madeThree (members v)))) (sym e)
+known : (l : List ℕ) {t u : SupportSet} → t ≡ u → stored l u ≡ stored l t
+known l e = ap (stored l) (sym e)
 
 enum-known-t : tie.Need-enum-known-t
 enum-known-t c = search needs

@@ -1,6 +1,6 @@
 -- `record_writer::write_record` meets its contract: the room, then the rules; the record is written only where none is broken.
 use mathlib.Core.Path.{sym, ap, _∙_}
-use mathlib.Core.List.{List}
+use mathlib.Core.List.{List, _++_}
 use Prim.Native.Nat.{ℕ}
 use borrow.Author.Tests.{lt-ltb, le-ltb}
 use borrow.Author.Needs.{needs}
@@ -8,7 +8,7 @@ use lib.ListN.{length}
 use lib.Seq.{sets}
 use Rattle.validity.proofs.ValidLaws.{members-counted}
 use Rattle.geometry.specs.Plane.{members}
-use Rattle.record_writer.specs.Layout.{recordLength, firstAt, countAt}
+use Rattle.record_writer.specs.Layout.{recordLength, firstAt}
 use Rattle.record_writer.specs.Bytes.{pointsBytes, madeThree, countBytes}
 use Rattle.record_writer.proofs.ByteLaws.{record-stored}
 use Rattle.record_writer.proofs.write_record.Statement.{statement}
@@ -26,16 +26,12 @@ put-disk-requires c κs = search needs
 put-points-requires : tie.Need-put-points-requires
 put-points-requires c κs = search needs
 
-put-count-requires : tie.Need-put-count-requires
-put-count-requires c κs = search needs
-
 same-length : tie.Need-same-length
 same-length c = search needs
 
 returns-2 : tie.Need-returns-2
 returns-2 c =
-    let count = c .before .before in
-    let points = count .before .before .before .before in
+    let points = c .before .before in
     let disk = points .before .before .before .before in
     let then2 = disk .before .before in
     let s = then2 .before .before .before .before in
@@ -46,9 +42,8 @@ returns-2 c =
     let ok = sym (then2 .before .is-valid .ensures) ∙ then2 .if2 .taken in (
       rw (long, ok),
       rw (long, ok)
-          (count .put-count .ensures
-          ∙ ap (λ (m : List ℕ). sets m countAt (countBytes (members t)))
-          (points .put-points .ensures ∙ ap (λ (m : List ℕ). sets m firstAt (pointsBytes (madeThree (members t)))) (disk .put-disk .ensures))
+          (points .put-points .ensures
+          ∙ ap (λ (m : List ℕ). sets m firstAt (pointsBytes (madeThree (members t)) ++ countBytes (members t))) (disk .put-disk .ensures)
           ∙ record-stored l d (members t) (members-counted t) (then2 .before .before .if1 .left)),
     )
 
@@ -65,7 +60,6 @@ write-record-spec =
     is-valid-requires
     put-disk-requires
     put-points-requires
-    put-count-requires
     same-length
     returns-2
     returns-3)
