@@ -95,7 +95,7 @@ pub record Values : Type 0 where
   pub glyph : (s : List ℕ) (k : ℕ) (bs : List ℕ) → (glyphBytes s k ≡ given bs) ↔ (AllKept (sheetRow s k) × IsPart s k bs)
   -- a record is read as the disk and the points whose record its bytes are
   pub reader : (bs : List ℕ) → Bytes bs → (d : Disk) (ps : List Point) → (readOf bs ≡ given (d, ps)) ↔ (Recordable d ps × (bs ≡ recordBytes d ps))
-  -- "The writer fills the first 45 bytes and leaves the rest" (with 02, item 4)
+  -- "The writer fills the first 44 bytes and leaves the rest": 45 by 02, item 4
   pub writer :
       (d : Disk) (ps : List Point) (b : List ℕ) → writeOf d ps b ≡ given tt
       → (length (recordBytes d ps) ≡ 45) × (bufferAfter d ps b ≡ recordBytes d ps ++ drop 45 b)

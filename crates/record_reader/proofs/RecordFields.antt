@@ -1,10 +1,10 @@
 -- A record as its eleven fields, and the fields of any bytes of its length.
 --
---   TwoBytes p          == the point's numbers are ones of 2 bytes
---   small            : those of a point in the em box are
+--   TwoBytes p           == the point's numbers are ones of 2 bytes
+--   small                : those of a point in the em box are
 --   ReadsAs bs d a b c n == in bs the disk d, the points a, b, c and the count n are read
---   fields-read      : they are, in their own bytes
---   fields-again     : what is read in any bytes of a record's length, written, is these bytes
+--   fields-read          : they are, in their own bytes
+--   fields-again         : what is read in any bytes of a record's length, written, is these bytes
 use mathlib.Core.Path.{_≡_, refl, sym, ap, _∙_, subst}
 use mathlib.Core.Bool.{true}
 use mathlib.Core.List.{List, [], _∷_, _++_, append-assoc, append-nil}

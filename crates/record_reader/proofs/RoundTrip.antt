@@ -170,7 +170,8 @@ module _ (bs : List ℕ) (bytes : (k : ℕ) → getD bs k 0 < 256) where
 
 -- ---- equal records
 
-pub record-injective : (d e : Disk) (ps qs : List Point) → valid d ps ≡ true → valid e qs ≡ true → recordBytes d ps ≡ recordBytes e qs → (d ≡ e) × (ps ≡ qs)
+pub record-injective : (d e : Disk) (ps qs : List Point) → valid d ps ≡ true → valid e qs ≡ true
+    → recordBytes d ps ≡ recordBytes e qs → (d ≡ e) × (ps ≡ qs)
 record-injective d e ps qs h k same =
     let read = given-same (sym (read-written d ps h) ∙ ap readOf same ∙ read-written e qs k) in
     (ap (λ (r : Disk × List Point). r .0) read, ap (λ (r : Disk × List Point). r .1) read)

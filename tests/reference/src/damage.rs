@@ -301,7 +301,8 @@ fn damage_word(bytes: &mut [u8], random: &mut Random) {
     bytes[at..at + 8].copy_from_slice(&new.to_be_bytes());
 }
 
-/// Two points swapped, one copied over another, or a coordinate outside the em box or near its edge; then, in half of the cases, any count.
+/// Two points swapped, one copied over another, or a coordinate outside the em box or near its edge; then, in half of the cases, a
+/// count from 1 to 3.
 fn damage_points(bytes: &mut [u8], random: &mut Random) {
     let (i, j) = (32 + 4 * random.below(3), 32 + 4 * random.below(3));
     match random.below(3) {

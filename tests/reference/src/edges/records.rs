@@ -84,7 +84,7 @@ const FAULTY: [(&str, Numbers, &[(i16, i16)]); 26] = [
 
 /// Letter F, and a disk with E 0, into buffers of other lengths.
 fn rooms() -> impl Iterator<Item = Writing> {
-    let says = "8, 7. The writer fills the first 45 bytes and leaves the rest; its buffer must have 45 bytes (02, item 4)";
+    let says = "Writer: 8, 7. It leaves the rest. The writer's buffer must have 45 bytes (02, item 4)";
     let rows = [
         (0, F, Err(8), Ok(3)),
         (0, FAULTY[0].1, Err(8), Err(7)),
@@ -122,7 +122,7 @@ pub fn readings() -> Vec<Reading> {
     let written = letters.map(|(numbers, support)| {
         let given = record::bytes_of(&disk(numbers), &points(support));
         Edge {
-            says: "45 bytes, high byte first; if there are one or two, the last is repeated to make three",
+            says: "high byte first; if there are one or two, the last is repeated to make three; a 45th byte (02, item 4)",
             given,
             gives: read(numbers, support),
         }
