@@ -1,5 +1,3 @@
--- Laws of the procedure's promise, and the proofs of the two functions. A folder whose name starts with + is the toolchain's way of naming
+-- The run on a whole list, and the proofs of the two functions. A folder whose name starts with + is the toolchain's way of naming
 -- the proof of functions that call themselves: `+mtf` is that of `mtf`.
-pub mod RunLaws
-pub mod RanLaws
 pub mod WholeRun

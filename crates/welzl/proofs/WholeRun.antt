@@ -37,7 +37,7 @@ use Rattle.relative_disks.specs.Relative.{inLowestTerms, StandsFor, none, prope
 use Rattle.fixed_points.specs.declared.Boundary.the-variants.{None}
 use Rattle.fixed_points.specs.Boundary.{Boxed}
 use Rattle.lowest_disks.specs.AnswerNumbers.{AnswerNumbers}
-use Rattle.welzl.specs.Ran.{Ran}
+use Rattle.inner_level.specs.Ran.{Ran}
 
 pub all-boxed : (P : List Point) → allInEmBox P ≡ true → Boxed P
 all-boxed P h = record { in-box = λ q m. test-true (inEmBox q) (box-members P h q m) }

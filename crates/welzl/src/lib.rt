@@ -1,17 +1,12 @@
 // Welzl's move-to-front procedure on a list of points (000: B_MTFDISK; 01, "Welzl's procedure and the count").
 use fixed_points::Boundary;
 use geometry::Disk;
-use relative_disks::RelativeDisk;
+use inner_level::RelativeRun;
 ghost use mathlib.Core.Path.{_≡_};
 ghost use Rattle.geometry.specs.Points.{points, flat};
 ghost use Rattle.disks.specs.Procedure.{diskOf, testsOf, orderOf};
-ghost use Rattle.welzl.specs.Ran.{Given, Ran, AllGiven};
-
-// What a run gives, before its disk is written in lowest terms.
-pub struct RelativeRun {
-    pub disk: RelativeDisk,
-    pub tests: u64,
-}
+ghost use Rattle.inner_level.specs.Ran.{Given, Ran};
+ghost use Rattle.welzl.specs.WholeList.{AllGiven};
 
 // The smallest disk, and how many tests of a point it took.
 pub struct Run {
@@ -19,13 +14,16 @@ pub struct Run {
     pub tests: u64,
 }
 
-// B_MTFDISK on the first n points of the list, with R fixed on the boundary.
+// B_MTFDISK on the first n points of the list, with R fixed on the boundary; with two points fixed by the level of its own.
 // Each point is tested once here, so that n and the tests of the calls make the count. In front of the first point there is nothing to
 // test, so that a call for it would only give the disk of its R.
 pub fn mtf(list: &mut [i16], n: usize, fixed: Boundary) -> RelativeRun
     requires { ⌜ Given fixed n (now list) ⌝ }
     ensures { λ r. ⌜ Ran fixed n (now (list .entry)) (now (list .exit)) (r .disk) (r .tests) ⌝ }
 {
+    if let Boundary::Two(a, b) = fixed {
+        return inner_level::two_fixed(list, n, a, b);
+    }
     let mut disk = fixed_points::boundary_disk(fixed);
     if fixed_points::room(fixed) == 0 {
         return RelativeRun { disk, tests: 0 };

@@ -17,9 +17,9 @@ use Rattle.relative_disks.specs.Relative.{isOutside}
 use Rattle.relative_disks.proofs.RelativeLaws.{near-box}
 use Rattle.fixed_points.specs.declared.Boundary.{Boundary}
 use Rattle.fixed_points.specs.Boundary.{members, roomIn, added, Boxed}
-use Rattle.welzl.specs.Ran.{Ran}
-use Rattle.welzl.proofs.RunLaws.{room-falls}
-use Rattle.welzl.proofs.RanLaws.{ran-full, ran-none, ran-kept, ran-moved, ran-length, ran-tests, point-same, prefix-boxed, added-boxed}
+use Rattle.inner_level.specs.Ran.{Ran}
+use Rattle.inner_level.proofs.RunLaws.{room-falls}
+use Rattle.inner_level.proofs.RanLaws.{ran-full, ran-none, ran-kept, ran-moved, ran-length, ran-tests, point-same, prefix-boxed, added-boxed}
 use Rattle.welzl.proofs.mtf.Reads as mtf
 use Rattle.welzl.proofs.mtf.Kinds as mtf-kinds
 use Rattle.welzl.proofs.+mtf.Lts-mtf as lts
@@ -29,6 +29,7 @@ use Rattle.fixed_points.proofs.boundary_disk.Reads as boundary-disk-reads
 use Rattle.relative_disks.proofs.is_outside.Reads as is-outside-reads
 use Rattle.point_moves.proofs.move_to_front.Reads as move-to-front-reads
 use Rattle.fixed_points.proofs.room.Reads as room-reads
+use Rattle.inner_level.proofs.two_fixed.Reads as two-fixed-reads
 use Rattle.welzl.proofs.+mtf.{statement}
 use Rattle.welzl.proofs.+mtf.Tie.{close}
 
@@ -44,6 +45,8 @@ mtf-below t = and 1 mtf-kinds.ps (falls 1 mtf-kinds.ps _<_ μ-mtf t) mtf.Pre
 
 abbrev claims : ℕ → lts.Claims
 claims t = (
+  two-fixed-reads.Asked,
+  two-fixed-reads.Learnt,
   boundary-disk-reads.Asked,
   boundary-disk-reads.Learnt,
   room-reads.Asked,
@@ -77,39 +80,42 @@ module _ (t : ℕ) where
   abbrev At : Type 0
   At = lts.At-loop (claims t) (mtf-at t) mtf.Post Inv-loop μ-loop
 
-  kept : (c : At) → length (c .loop .list) ≡ length (c .before .before .before .before .args .list .now)
+  abbrev start : At → lts.Start (claims t) (mtf-at t) mtf.Post Inv-loop μ-loop
+  start c = c .before .before .before .before .before
+
+  kept : (c : At) → length (c .loop .list) ≡ length (start c .args .list .now)
   kept c =
-      let s = c .before .before .before .before in
+      let s = start c in
       ran-length (s .args .fixed) (c .loop .i) (s .args .list .now) (c .loop .list) (c .loop .disk) (c .loop .inner + c .loop .i) (omega arith)
       (c .loop .inv .1)
 
   counted : (c : At) → c .loop .inner + c .loop .i < 2 ^ 36
   counted c =
-      let s = c .before .before .before .before in
+      let s = start c in
       ran-tests (s .args .fixed) (c .loop .i) (s .args .list .now) (c .loop .list) (c .loop .disk) (c .loop .inner + c .loop .i) (omega arith)
       (c .loop .inv .1) (omega arith)
 
-  more : (c : At) → roomIn (c .before .before .before .before .args .fixed) ≡ 0 → ⊥
+  more : (c : At) → roomIn (start c .args .fixed) ≡ 0 → ⊥
   more c e = c .before .if1 .left (c .before .before .room .ensures ∙ e)
 
   -- in the loop: point i was there, is still there, and lies in the em box
   abbrev InLoop : Type 0
   InLoop = lts.In-loop (claims t) (mtf-at t) mtf.Post Inv-loop μ-loop
 
-  fits : (c : InLoop) → 2 * c .before .loop .i + 2 ≤ length (c .before .before .before .before .before .args .list .now)
-  fits c = omega (arith, c .loop-test .taken, c .before .before .before .before .before .pre .1 .fits)
+  fits : (c : InLoop) → 2 * c .before .loop .i + 2 ≤ length (start (c .before) .args .list .now)
+  fits c = omega (arith, c .loop-test .taken, start (c .before) .pre .1 .fits)
 
   same-point : (c : InLoop) → pointAt (c .before .loop .list) (c .before .loop .i) ≡ pointAt
-      (c .before .before .before .before .before .args .list .now) (c .before .loop .i)
+      (start (c .before) .args .list .now) (c .before .loop .i)
   same-point c =
       let at = c .before in
-      let s = at .before .before .before .before in
+      let s = start at in
       point-same (s .args .fixed) (at .loop .i) (s .args .list .now) (at .loop .list) (at .loop .disk) (at .loop .inner + at .loop .i) (more at)
       (fits c) (at .loop .inv .1)
 
-  boxed : (c : InLoop) → inEmBox (pointAt (c .before .before .before .before .before .args .list .now) (c .before .loop .i)) ≡ true
+  boxed : (c : InLoop) → inEmBox (pointAt (start (c .before) .args .list .now) (c .before .loop .i)) ≡ true
   boxed c =
-      let s = c .before .before .before .before .before in
+      let s = start (c .before) in
       s .pre .1 .list-boxed .in-box _ (pointAt-firstPoints (c .before .loop .i) (s .args .n) (s .args .list .now) (c .loop-test .taken) (s .pre .1 .fits))
 
   -- after the call: what it promises, with the set and the point as the definition has them
@@ -124,15 +130,15 @@ module _ (t : ℕ) where
 
   -- the set of the call
   abbrev next : Added → Boundary
-  next c = added (head c .before .before .before .before .args .fixed) (pointAt (head c .loop .list) (head c .loop .i))
+  next c = added (start (head c) .args .fixed) (pointAt (head c .loop .list) (head c .loop .i))
 
   next-is : (c : Added) → c .add-point .result ≡ next c
-  next-is c = c .add-point .ensures ∙ ap (added (head c .before .before .before .before .args .fixed)) (c .before .before .before .point-at .ensures)
+  next-is c = c .add-point .ensures ∙ ap (added (start (head c) .args .fixed)) (c .before .before .before .point-at .ensures)
 
   next-boxed : (c : Added) → Boxed (members (c .add-point .result))
   next-boxed c =
       let inside = c .before .before .before .before .before in
-      let s = inside .before .before .before .before .before in
+      let s = start (inside .before) in
       rw (c .add-point .ensures, c .before .before .before .point-at .ensures ∙ same-point inside)
       (added-boxed (s .args .fixed) (pointAt (s .args .list .now) (inside .before .loop .i)) (s .pre .1 .fixed-boxed) (boxed inside))
 
@@ -163,21 +169,34 @@ module _ (t : ℕ) where
       (0, rw (w .2, w .3) (subst (λ (i : ℕ). Ran (next a) i l l (w .1 .result) 0) (sym at-first) none), w .4 ∙ sym (add-zero (head a .loop .inner))))
       (c .if3 .came)
 
+  -- with two points fixed: the level of its own
+  enum-known-fixed : lts.Need-enum-known-fixed (claims t) (mtf-at t) mtf.Post Inv-loop μ-loop
+  enum-known-fixed c = search needs
+
+  two-fixed-requires : lts.Need-two-fixed-requires (claims t) (mtf-at t) mtf.Post Inv-loop μ-loop
+  two-fixed-requires c κs = rw (c .before .before .fixed .given .1) at (c .before .before .before .before .pre .1)
+
+  same-length : lts.Need-same-length (claims t) (mtf-at t) mtf.Post Inv-loop μ-loop
+  same-length c = search needs
+
+  returns : lts.Need-returns (claims t) (mtf-at t) mtf.Post Inv-loop μ-loop
+  returns c = rw (c .before .before .before .before .fixed .given .1) (c .before .two-fixed .ensures)
+
   boundary-disk-requires : lts.Need-boundary-disk-requires (claims t) (mtf-at t) mtf.Post Inv-loop μ-loop
-  boundary-disk-requires c κs = c .pre .1 .fixed-boxed
+  boundary-disk-requires c κs = c .before .pre .1 .fixed-boxed
 
   room-requires : lts.Need-room-requires (claims t) (mtf-at t) mtf.Post Inv-loop μ-loop
   room-requires c κs = search needs
 
-  returns : lts.Need-returns (claims t) (mtf-at t) mtf.Post Inv-loop μ-loop
-  returns c =
-      let s = c .before .before .before in
+  returns-2 : lts.Need-returns-2 (claims t) (mtf-at t) mtf.Post Inv-loop μ-loop
+  returns-2 c =
+      let s = c .before .before .before .before in
       ran-full (s .args .fixed) (s .args .n) (s .args .list .now) (c .before .before .boundary-disk .result)
       (sym (c .before .room .ensures) ∙ c .if1 .taken) (s .pre .1 .fits) (c .before .before .boundary-disk .ensures)
 
   loop-holds : lts.Need-loop-holds (claims t) (mtf-at t) mtf.Post Inv-loop μ-loop
   loop-holds c =
-      let s = c .before .before .before in
+      let s = c .before .before .before .before in
       (search needs, ran-none (s .args .fixed) (s .args .list .now) (c .before .before .boundary-disk .result) (c .before .before .boundary-disk .ensures))
 
   point-at-requires : lts.Need-point-at-requires (claims t) (mtf-at t) mtf.Post Inv-loop μ-loop
@@ -196,7 +215,7 @@ module _ (t : ℕ) where
       let a = c .before .before in
       let inside = a .before .before .before .before .before in
       let at = inside .before in
-      let s = at .before .before .before .before in
+      let s = start at in
       let R = s .args .fixed in
       let l = s .args .list .now in
       let i = at .loop .i in (
@@ -214,12 +233,13 @@ module _ (t : ℕ) where
   add-inner c =
       let m = c .before .before .before in
       let a = m .before .before .before in
+      let inside = a .before .before .before .before .before in
       let at = head a in
       omega (
         arith,
         counted at,
-        ran-tests (next a) (at .loop .i) (at .loop .list) (m .mtf .last .0) (m .mtf .result .disk) (m .mtf .result .tests) (omega (arith, kept at))
-            (again m) (omega arith),
+        ran-tests (next a) (at .loop .i) (at .loop .list) (m .mtf .last .0) (m .mtf .result .disk) (m .mtf .result .tests)
+            (omega (arith, kept at, fits inside)) (again m) (omega (arith, inside .loop-test .taken, start at .pre .1 .few)),
       )
 
   boundary-disk-requires-2 : lts.Need-boundary-disk-requires-2 (claims t) (mtf-at t) mtf.Post Inv-loop μ-loop
@@ -247,7 +267,7 @@ module _ (t : ℕ) where
   loop-again c =
       let inside = c .before .before .before .before in
       let at = inside .before in
-      let s = at .before .before .before .before in
+      let s = start at in
       let tested : isOutside (at .loop .disk) (pointAt (at .loop .list) (at .loop .i)) ≡ c .before .is-outside .result =
       sym (c .before .is-outside .ensures ∙ ap (isOutside (at .loop .disk)) (c .before .before .point-at .ensures)) in (
         omega arith,
@@ -270,22 +290,26 @@ module _ (t : ℕ) where
   add-tests : lts.Need-add-tests (claims t) (mtf-at t) mtf.Post Inv-loop μ-loop
   add-tests c = omega (arith, counted (c .before))
 
-  same-length : lts.Need-same-length (claims t) (mtf-at t) mtf.Post Inv-loop μ-loop
-  same-length c = kept (c .before)
+  same-length-2 : lts.Need-same-length-2 (claims t) (mtf-at t) mtf.Post Inv-loop μ-loop
+  same-length-2 c = kept (c .before)
 
-  returns-2 : lts.Need-returns-2 (claims t) (mtf-at t) mtf.Post Inv-loop μ-loop
-  returns-2 c =
+  returns-3 : lts.Need-returns-3 (claims t) (mtf-at t) mtf.Post Inv-loop μ-loop
+  returns-3 c =
       let at = c .before in
-      let e : at .loop .i ≡ at .before .before .before .before .args .n = omega arith in
+      let e : at .loop .i ≡ start at .args .n = omega arith in
       rw e at (at .loop .inv .1)
 
 pub +mtf-spec : {M : Type 1} → statement M
 +mtf-spec =
     close μ-mtf λ t.
     lts.spec (claims t) (mtf-at t) mtf.Post Inv-loop μ-loop
+    (enum-known-fixed t)
+    (two-fixed-requires t)
+    (same-length t)
+    (returns t)
     (boundary-disk-requires t)
     (room-requires t)
-    (returns t)
+    (returns-2 t)
     (loop-holds t)
     (point-at-requires t)
     (is-outside-requires t)
@@ -298,5 +322,5 @@ pub +mtf-spec : {M : Type 1} → statement M
     (loop-less t)
     (loop-again t)
     (add-tests t)
-    (same-length t)
-    (returns-2 t)
+    (same-length-2 t)
+    (returns-3 t)

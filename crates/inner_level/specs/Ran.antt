@@ -3,15 +3,12 @@
 --   Given R n list               == the first n points of the list and the points of R lie in the em box, and n is at most 4,096
 --   Ran R n before after d t     == d, t and `after` are the disk, the tests and the list that the text's procedure gives on the first n points
 --                                   of `before`, with R fixed, whether or not a disk fits them
---   AllGiven list                == 1 to 4,096 points, all in the em box
 use mathlib.Core.Path.{_≡_}
-use mathlib.Core.Bool.{true}
 use mathlib.Core.List.{List, _++_}
-use Prim.Native.Nat.{ℕ, _*_, _%_, _≤_, _<_}
+use Prim.Native.Nat.{ℕ, _*_, _≤_}
 use lib.IntN.{ℤ}
 use lib.ListN.{length, drop}
-use Rattle.geometry.specs.EmBox.{allInEmBox}
-use Rattle.geometry.specs.Points.{points, flat, firstPoints}
+use Rattle.geometry.specs.Points.{flat, firstPoints}
 use Rattle.disks.specs.Procedure.{mtf}
 use Rattle.relative_disks.specs.declared.RelativeDisk.{RelativeDisk}
 use Rattle.relative_disks.specs.Relative.{Keeps}
@@ -28,9 +25,3 @@ pub record Ran (fixed : Boundary) (n : ℕ) (before after : List ℤ) (d : Relat
   pub disk-is : Keeps d (mtf (members fixed) (firstPoints n before) .cover)
   pub tests-is : tests ≡ mtf (members fixed) (firstPoints n before) .tests
   pub left-is : after ≡ flat (mtf (members fixed) (firstPoints n before) .left) ++ drop (2 * n) before
-
-pub record AllGiven (list : List ℤ) : Type 0 where
-  pub even : length list % 2 ≡ 0
-  pub some : 0 < length list
-  pub few : length list ≤ 8192
-  pub boxed : allInEmBox (points list) ≡ true
