@@ -24,7 +24,7 @@ use Rattle.disks.proofs.Relative.{relative, point-relative, pair-relative, turn
 use Rattle.disks.proofs.LowestTerms.{lowered}
 use Rattle.disks.proofs.Tests.{relativeDisk, relative-lowered, row-weight, row-holds}
 use Rattle.disks.proofs.Bridge.{point-lowered, diameter-lowered, circle-lowered}
-use Rattle.disks.proofs.BoxLimits.{turned-weight}
+use Rattle.disks.proofs.BoxLimits.{Box, turned-weight, Span, offset-x, offset-y}
 use Rattle.disks.proofs.Answer.{side, em-square, in-square}
 use Rattle.relative_disks.proofs.RelativeLaws.{near-box}
 use Rattle.relative_disks.specs.Relative.{nothing, pointAbout, diameterAbout, bySign, circleAbout, largestCoordinate, largestOffset, Near, Small}
@@ -126,23 +126,35 @@ module _ (a b c : Point) where
       row zero refl refl (lowestTerms gx gy 0 (natAbs (norm gx gy))) (ap disk (as-is k ∙ row-is a e gx gy zero)) (row-weight gx gy) (row-holds gx gy)
 
   module _ (ha : inEmBox a ≡ true) (hb : inEmBox b ≡ true) (hc : inEmBox c ≡ true) where
+    box-a : Box (em .left) (em .foot) (side em) a
+    box-a = in-square em em-square a (true-test ha)
+
+    box-b : Box (em .left) (em .foot) (side em) b
+    box-b = in-square em em-square b (true-test hb)
+
+    box-c : Box (em .left) (em .foot) (side em) c
+    box-c = in-square em em-square c (true-test hc)
+
     -- twice the square of the em box's side, at most
     weight-by : (s : Bool) → turned s (vanishing a b c) .e ≤ℤ pos (em .scale)
-    weight-by s =
-        turned-weight (em .left) (em .foot) (side em) (≤-of-< (em-square .some)) s a b c
-        (in-square em em-square a (true-test ha)) (in-square em em-square b (true-test hb)) (in-square em em-square c (true-test hc))
+    weight-by s = turned-weight (em .left) (em .foot) (side em) (≤-of-< (em-square .some)) s a b c box-a box-b box-c
 
     weight-small : Within (em .scale) e
     weight-small = within-range (subst (λ (z : ℤ). negℤ (pos (em .scale)) ≤ℤ z) (neg-neg e) (neg-mono (weight-by true))) (weight-by false)
 
-    circle-small : Near a → Near b → Near c → Small (bySign (ltZ (pos 0) e) (ltZ e (pos 0)) e (a .x) (a .y) gx gy)
-    circle-small na nb nc =
-        small-by (ltZ (pos 0) e) (ltZ e (pos 0)) e (a .x) (a .y) gx gy weight-small (na .x-near) (na .y-near)
-        (at-most (search values depth 30) tt) (at-most (search values depth 30) tt)
+    -- twice its cube, at most
+    offset-small : {z : ℤ} → Span (pos largestOffset) z → Within largestOffset z
+    offset-small s = within-range (s .from) (s .to)
+
+    circle-small : Small (bySign (ltZ (pos 0) e) (ltZ e (pos 0)) e (a .x) (a .y) gx gy)
+    circle-small =
+        small-by (ltZ (pos 0) e) (ltZ e (pos 0)) e (a .x) (a .y) gx gy weight-small (near-box a ha .x-near) (near-box a ha .y-near)
+        (offset-small (offset-x (side em) (≤-of-< (em-square .some)) (em .left) (em .foot) a b c box-a box-b box-c))
+        (offset-small (offset-y (side em) (≤-of-< (em-square .some)) (em .left) (em .foot) a b c box-a box-b box-c))
 
     pub keeps-circle : Keeps (circleAbout (a .x) (a .y) (b .x -ℤ a .x) (b .y -ℤ a .y) (c .x -ℤ a .x) (c .y -ℤ a .y)) (boundaryDisk (a ∷ b ∷ c ∷ []))
     unfolding boundaryDisk circleAbout
     keeps-circle = record {
-      small = circle-small (near-box a ha) (near-box b hb) (near-box c hc);
+      small = circle-small;
       stands = stands-by (ltZ (pos 0) e) (ltZ e (pos 0)) refl refl;
     }

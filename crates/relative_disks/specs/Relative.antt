@@ -59,9 +59,9 @@ largestCoordinate = largest em
 abbrev pub largestDifference : ℕ
 largestDifference = 2 * largestCoordinate
 
--- |u|²·v − |v|²·u for differences u and v
+-- |u|²·v − |v|²·u for the sides u and v of a triangle in the em box: twice the cube of the box's side
 abbrev pub largestOffset : ℕ
-largestOffset = 4 * (largestDifference * largestDifference * largestDifference)
+largestOffset = largestCoordinate * em .scale
 
 abbrev pub Coordinates : ℤ → ℤ → Type 0
 Coordinates x y = Within largestCoordinate x × Within largestCoordinate y

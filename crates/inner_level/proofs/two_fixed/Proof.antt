@@ -7,7 +7,6 @@ use Prim.Native.Nat.{_+_, _-_, _*_, _≤_}
 use native.Mathlib.Nat.{add-zero}
 use native.Mathlib.Omega.{arith}
 use lib.ListN.{length}
-use Rattle.geometry.specs.declared.Point.{Point}
 use Rattle.geometry.specs.EmBox.{inEmBox}
 use Rattle.geometry.specs.Points.{pointAt}
 use Rattle.geometry.proofs.PointLists.{pointAt-firstPoints}
