@@ -2,6 +2,7 @@ pub mod Demand1
 pub mod Demand2
 pub mod Demand3
 pub mod FromFixed
+pub mod InnerLevel
 pub mod Values
 pub mod Whole
 pub mod DrawnPoints

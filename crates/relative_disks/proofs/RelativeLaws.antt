@@ -6,9 +6,13 @@
 --   wide-near             : a widened coordinate of a near point, as the machine reads it back
 --   near-box              : a point of the em box is near
 --   outside-kept          : a kept disk has a point of the em box outside where the text's disk has
-use mathlib.Core.Path.{_≡_, sym, _∙_, ap, ap₂}
+--   weightIn c            == E of the text's cover c, 0 of the empty disk
+--   stands-proper         : where that is not 0, a disk that stands for the cover is one, and in lowest terms is the text's
+use mathlib.Core.Path.{_≡_, sym, _∙_, ap, ap₂, subst}
 use mathlib.Core.Bool.{Bool, true, false, not}
 use mathlib.Core.List.{[], _∷_}
+use Prim.Native.Nat.{ℕ, _≤_}
+use native.Mathlib.Omega.{arith}
 use lib.IntN.{ℤ, pos, negsuc, _+ℤ_, _-ℤ_, _*ℤ_}
 use lib.Signed.{ltZ, _<ℤ_}
 use mir.Syntax.{w16, w64}
@@ -21,7 +25,7 @@ use Rattle.integers.proofs.Ring.{ring, poly}
 use Rattle.geometry.specs.declared.Point.{Point}
 use Rattle.geometry.specs.EmBox.{em, inEmBox, leftOfBox}
 use Rattle.geometry.proofs.EmBox.{point-size, right-of}
-use Rattle.disks.specs.Procedure.{Cover, disk, outside, norm}
+use Rattle.disks.specs.Procedure.{Cover, empty, disk, outside, norm}
 use Rattle.disks.proofs.Lifted.{value}
 use Rattle.disks.proofs.Relative.{relative}
 use Rattle.disks.proofs.Tests.{outside-relative}
@@ -101,3 +105,18 @@ outside-kept {d} {c} k p h = go (k .stands)
     go (none e f) = at f (sym (ap (λ (x : RelativeDisk). isOutside x p) e ∙ outside-nothing p h))
     go (proper s f) = at f (outside-proper d p s)
     go (row he hx hy b f z all) = at f (ap not (all p) ∙ sym (outside-row d p he hx hy))
+
+-- ---- the text's disk
+
+abbrev pub weightIn : Cover → ℕ
+weightIn empty = 0
+weightIn (disk k) = k .e
+
+pub record Proper (d : RelativeDisk) (c : Cover) : Type 0 where
+  pub positive-e : pos 0 <ℤ d .e
+  pub written : c ≡ disk (inLowestTerms d)
+
+pub stands-proper : {d : RelativeDisk} {c : Cover} → StandsFor d c → 1 ≤ weightIn c → Proper d c
+stands-proper (none d-is f) some = absurd (omega (arith, subst (λ (x : Cover). 1 ≤ weightIn x) f some))
+stands-proper (proper s f) some = record { positive-e = s; written = f }
+stands-proper (row he hx hy k f z all) some = absurd (omega (arith, z, subst (λ (x : Cover). 1 ≤ weightIn x) f some))

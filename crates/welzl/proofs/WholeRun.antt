@@ -10,19 +10,19 @@ use mathlib.Core.Bool.{true}
 use mathlib.Core.List.{List, [], _∷_, append-nil}
 use Prim.Native.Nat.{ℕ, _*_, _≤_, _<_}
 use native.Mathlib.Omega.{arith}
-use lib.IntN.{ℤ, pos}
+use lib.IntN.{ℤ}
 use lib.ListN.{length, drop, drop-of-length-le}
-use lib.Signed.{_<ℤ_}
 use Rattle.integers.proofs.Tests.{test-true}
 use Rattle.geometry.specs.declared.Point.{Point}
 use Rattle.geometry.specs.EmBox.{inEmBox, allInEmBox}
 use Rattle.geometry.specs.Points.{points, flat}
 use Rattle.geometry.proofs.EmBox.{box-members}
 use Rattle.geometry.proofs.PointLists.{firstPoints-all}
-use Rattle.disks.specs.Procedure.{Cover, empty, disk, mtf, diskIn, diskOf, testsOf, orderOf}
+use Rattle.disks.specs.Procedure.{Cover, disk, mtf, diskIn, diskOf, testsOf, orderOf}
 use Rattle.disks.proofs.Welzl.{mtf-ends, smallest}
 use Rattle.relative_disks.specs.declared.RelativeDisk.{RelativeDisk}
-use Rattle.relative_disks.specs.Relative.{inLowestTerms, StandsFor, none, proper, row, Keeps}
+use Rattle.relative_disks.specs.Relative.{inLowestTerms, Keeps}
+use Rattle.relative_disks.proofs.RelativeLaws.{weightIn, stands-proper}
 use Rattle.fixed_points.specs.declared.Boundary.the-variants.{None}
 use Rattle.fixed_points.specs.Boundary.{Boxed}
 use Rattle.lowest_disks.specs.AnswerNumbers.{AnswerNumbers}
@@ -33,44 +33,25 @@ all-boxed P h = record { in-box = λ q m. test-true (inEmBox q) (box-members P h
 
 -- ---- the disk
 
-module _ (p : Point) (P : List Point) (d : RelativeDisk) (keeps : Keeps d (mtf [] (p ∷ P) .cover)) where
-  -- the run has ended on a disk
-  record Ended : Type 0 where
-    positive-e : pos 0 <ℤ d .e
-    answer : inLowestTerms d ≡ diskOf (p ∷ P)
-
-  ended : Ended
-  ended = go (keeps .stands)
-    where
-      weightIn : Cover → ℕ
-      weightIn empty = 0
-      weightIn (disk k) = k .e
-
-      some : 1 ≤ weightIn (mtf [] (p ∷ P) .cover)
-      some = subst (λ (c : Cover). 1 ≤ weightIn c) (sym (mtf-ends p P)) (smallest p P .proper)
-
-      go : StandsFor d (mtf [] (p ∷ P) .cover) → Ended
-      go (none e f) = absurd (omega (arith, subst (λ (c : Cover). 1 ≤ weightIn c) f some))
-      go (proper s f) = record { positive-e = s; answer = ap diskIn (sym f) }
-      go (row he hx hy k f z all) = absurd (omega (arith, z, subst (λ (c : Cover). 1 ≤ weightIn c) f some))
-
 pub record Answered (P : List Point) (d : RelativeDisk) : Type 0 where
   pub numbers : AnswerNumbers (d .e) (d .qx) (d .qy) (d .gx) (d .gy)
   pub disk : inLowestTerms d ≡ diskOf P
 
 pub kept-answer : (P : List Point) (d : RelativeDisk) → 0 < length P → Keeps d (mtf [] P .cover) → Answered P d
 kept-answer [] d some k = absurd (omega arith)
-kept-answer (p ∷ P) d some k = record {
-  numbers = record {
-    proper = ended p P d k .positive-e;
-    e-few = k .small .e-small;
-    qx-few = k .small .qx-small;
-    qy-few = k .small .qy-small;
-    gx-few = k .small .gx-small;
-    gy-few = k .small .gy-small;
-  };
-  disk = ended p P d k .answer;
-}
+kept-answer (p ∷ P) d some k =
+    let ended = stands-proper (k .stands) (subst (λ (c : Cover). 1 ≤ weightIn c) (sym (mtf-ends p P)) (smallest p P .proper)) in
+    record {
+      numbers = record {
+        proper = ended .positive-e;
+        e-few = k .small .e-small;
+        qx-few = k .small .qx-small;
+        qy-few = k .small .qy-small;
+        gx-few = k .small .gx-small;
+        gy-few = k .small .gy-small;
+      };
+      disk = ap diskIn (sym (ended .written));
+    }
 
 -- ---- the whole list
 
