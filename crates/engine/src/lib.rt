@@ -17,7 +17,7 @@ pub enum Enclosed {
 
 // Whether every point of the list lies in the em box. A list is seldom refused, and without a way out of the loop it takes several
 // points at a time.
-fn all_in_em_box(list: &[i16]) -> bool
+pub fn all_in_em_box(list: &[i16]) -> bool
     requires { ⌜ length (now list) % 2 ≡ 0 ⌝ }
     ensures { λ r. ⌜ r ≡ allInEmBox (points (now (list .entry))) ⌝ }
 {

@@ -2,3 +2,4 @@ pub mod Letters
 pub mod Descriptions
 pub mod Drawings
 pub mod Records
+pub mod InnerLevel

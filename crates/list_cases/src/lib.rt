@@ -1,6 +1,12 @@
-// Stored cases of descriptions, point lists and a drawing program's points (tests/README.md): each is given its bytes, and what the calls answer and
-// leave is printed.
+// Stored cases of descriptions, point lists, the procedure with two points fixed and a drawing program's points (tests/README.md): each is given its
+// bytes, and what the calls answer and leave is printed.
 use drawn_points::DrawnPoint;
+use geometry::Point;
+use relative_disks::RelativeDisk;
+ghost use mathlib.Core.Path.{_≡_};
+ghost use Prim.Native.Nat.{_%_, _≤_};
+ghost use lib.ListN.{length};
+ghost use Rattle.relative_disks.specs.Relative.{Small};
 
 // The engine on a list of points alone.
 fn solve(list: &mut [i16]) {
@@ -42,6 +48,60 @@ pub fn run_engine(bytes: &[u8]) {
     if n <= 8200 {
         cases::fill_list(bytes, &mut list);
         solve(&mut list[..n]);
+    }
+}
+
+// The point of two signed numbers of 2 bytes each.
+pub fn get_point(bytes: &[u8], at: usize) -> Point
+    requires { ⌜ at ≤ 100 ⌝ }
+{
+    let x = cases::number_at(bytes, at);
+    let y = cases::number_at(bytes, at + 2);
+    Point { x, y }
+}
+
+// The disk that a run ends on; three points in a row have no circle.
+fn print_relative(d: RelativeDisk)
+    requires { ⌜ Small d ⌝ }
+{
+    if 0 < d.e {
+        printing::print_disk(lowest_disks::written(d.e, d.qx, d.qy, d.gx, d.gy));
+    } else {
+        printing::print_text(b"no circle\n");
+    }
+}
+
+// The procedure on a list of points alone, with a and b fixed; all of them in the em box, or nothing is done.
+fn solve_fixed(list: &mut [i16], a: Point, b: Point)
+    requires { ⌜ length (now list) % 2 ≡ 0 ⌝ ∗ ⌜ length (now list) ≤ 8192 ⌝ }
+{
+    if !engine::all_in_em_box(list) {
+        return;
+    }
+    if !geometry::in_em_box(a) {
+        return;
+    }
+    if !geometry::in_em_box(b) {
+        return;
+    }
+    let n = list.len() / 2;
+    let run = inner_level::two_fixed(list, n, a, b);
+    print_relative(run.disk);
+    printing::print_count(b"tests", run.tests);
+    printing::print_count(b"left", checksum::of_list(list));
+}
+
+// F: two points, four bytes each, then a list of points; through the procedure with the two fixed.
+pub fn run_fixed(bytes: &[u8]) {
+    if 8 <= bytes.len() {
+        let a = get_point(bytes, 0);
+        let b = get_point(bytes, 4);
+        let n = (bytes.len() - 8) / 4;
+        let mut list = [0i16; 8192];
+        cases::fill_list(&bytes[8..], &mut list);
+        if n <= 4096 {
+            solve_fixed(&mut list[..2 * n], a, b);
+        }
     }
 }
 

@@ -1,8 +1,6 @@
 // Runs the stored cases (tests/README.md): each names a call and gives it its bytes; what the calls answer and leave is printed.
 use geometry::Disk;
-use geometry::Point;
 use geometry::SupportSet;
-ghost use Prim.Native.Nat.{_≤_};
 
 fn print_radius(d: Disk, t: SupportSet) {
     match radius::whole_radius(d, t) {
@@ -75,19 +73,11 @@ fn run_reader(bytes: &[u8]) {
     }
 }
 
-fn get_point(bytes: &[u8], at: usize) -> Point
-    requires { ⌜ at ≤ 100 ⌝ }
-{
-    let x = cases::number_at(bytes, at);
-    let y = cases::number_at(bytes, at + 2);
-    Point { x, y }
-}
-
 // The points stand from byte 34 on.
 fn get_support(bytes: &[u8], count: u8) -> SupportSet {
-    let a = get_point(bytes, 34);
-    let b = get_point(bytes, 38);
-    let c = get_point(bytes, 42);
+    let a = list_cases::get_point(bytes, 34);
+    let b = list_cases::get_point(bytes, 38);
+    let c = list_cases::get_point(bytes, 42);
     if count == 1 {
         return SupportSet::One(a);
     }
@@ -131,6 +121,7 @@ fn run_case(call: u8, bytes: &[u8]) {
         b'D' => list_cases::run_listing(bytes),
         b'E' => list_cases::run_engine(bytes),
         b'L' => list_cases::run_loader(bytes),
+        b'F' => list_cases::run_fixed(bytes),
         b'A' => list_cases::run_append(bytes),
         b'S' => run_sheet(bytes),
         b'P' => run_part(bytes),

@@ -2,21 +2,16 @@
 --
 --   Answered P d              == d in lowest terms is `diskOf P`, and no step of writing it overflows
 --   Whole l after d tests     == d, tests and `after` are what the text's procedure gives for l's points
---   all-boxed                 : of a list that passes the test, each point lies in the em box
 --   kept-answer               : the disk that is kept at the end is the answer
 --   ran-whole                 : the promise `Ran`, of a whole list with no point fixed, is `Whole`
 use mathlib.Core.Path.{_≡_, sym, ap, subst}
-use mathlib.Core.Bool.{true}
 use mathlib.Core.List.{List, [], _∷_, append-nil}
 use Prim.Native.Nat.{ℕ, _*_, _≤_, _<_}
 use native.Mathlib.Omega.{arith}
 use lib.IntN.{ℤ}
 use lib.ListN.{length, drop, drop-of-length-le}
-use Rattle.integers.proofs.Tests.{test-true}
 use Rattle.geometry.specs.declared.Point.{Point}
-use Rattle.geometry.specs.EmBox.{inEmBox, allInEmBox}
 use Rattle.geometry.specs.Points.{points, flat}
-use Rattle.geometry.proofs.EmBox.{box-members}
 use Rattle.geometry.proofs.PointLists.{firstPoints-all}
 use Rattle.disks.specs.Procedure.{Cover, disk, mtf, diskIn, diskOf, testsOf, orderOf}
 use Rattle.disks.proofs.Welzl.{mtf-ends, smallest}
@@ -24,12 +19,8 @@ use Rattle.relative_disks.specs.declared.RelativeDisk.{RelativeDisk}
 use Rattle.relative_disks.specs.Relative.{inLowestTerms, Keeps}
 use Rattle.relative_disks.proofs.RelativeLaws.{weightIn, stands-proper}
 use Rattle.fixed_points.specs.declared.Boundary.the-variants.{None}
-use Rattle.fixed_points.specs.Boundary.{Boxed}
 use Rattle.lowest_disks.specs.AnswerNumbers.{AnswerNumbers}
 use Rattle.inner_level.specs.Ran.{Ran}
-
-pub all-boxed : (P : List Point) → allInEmBox P ≡ true → Boxed P
-all-boxed P h = record { in-box = λ q m. test-true (inEmBox q) (box-members P h q m) }
 
 -- ---- the disk
 

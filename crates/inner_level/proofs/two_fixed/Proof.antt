@@ -1,20 +1,23 @@
 -- `inner_level::two_fixed` meets its contract. The loop's invariant is the promise itself, for the first i points, each of them tested once.
 use borrow.Author.Needs.{needs}
-use mathlib.Core.Path.{_≡_, refl, sym, ap, _∙_}
+use mathlib.Core.Path.{_≡_, refl, sym, ap, _∙_, subst}
 use mathlib.Core.Logic.{⊎-elim}
 use mathlib.Core.Bool.{true}
+use mathlib.Core.List.{[], _∷_}
 use Prim.Native.Nat.{_+_, _-_, _*_, _≤_}
 use native.Mathlib.Nat.{add-zero}
 use native.Mathlib.Omega.{arith}
 use lib.ListN.{length}
+use Rattle.geometry.specs.declared.Point.{Point}
 use Rattle.geometry.specs.EmBox.{inEmBox}
 use Rattle.geometry.specs.Points.{pointAt}
 use Rattle.geometry.proofs.PointLists.{pointAt-firstPoints}
-use Rattle.relative_disks.specs.Relative.{isOutside}
+use Rattle.disks.specs.Procedure.{boundaryDisk}
+use Rattle.relative_disks.specs.Relative.{isOutside, Keeps}
 use Rattle.relative_disks.proofs.RelativeLaws.{near-box}
 use Rattle.fixed_points.specs.declared.Boundary.{Boundary}
 use Rattle.fixed_points.specs.declared.Boundary.the-variants.{Two, Three}
-use Rattle.fixed_points.specs.Boundary.{roomIn}
+use Rattle.fixed_points.specs.Boundary.{members, roomIn, added, Boxed}
 use Rattle.inner_level.specs.Ran.{Ran}
 use Rattle.inner_level.proofs.RanLaws.{ran-full, ran-none, ran-kept, ran-moved, ran-length, point-same, added-boxed}
 use Rattle.inner_level.proofs.two_fixed.Statement.{statement}
@@ -78,7 +81,7 @@ boundary-disk-requires-2 : tie.Need-boundary-disk-requires-2 Inv-loop μ-loop
 boundary-disk-requires-2 c κs =
     let inside = c .before .before .before .before in
     let s = inside .before .before .before in
-    rw (c .before .before .point-at .ensures ∙ same-point inside)
+    subst (λ (q : Point). Boxed (members (added (R (inside .before)) q))) (sym (c .before .before .point-at .ensures ∙ same-point inside))
     (added-boxed (R (inside .before)) (pointAt (s .args .list .now) (inside .before .loop .i)) (s .pre .fixed-boxed) (boxed inside))
 
 move-to-front-requires : tie.Need-move-to-front-requires Inv-loop μ-loop
@@ -107,8 +110,8 @@ loop-again c =
       ⊎-elim
           (λ w.
           -- with p added R has three points, so the circle is all that the call gives
-          let three = ran-full (Three p (s .args .a) (s .args .b)) i (at .loop .list) (w .1 .result) refl (omega (arith, kept at, fits inside))
-          (rw point at (w .1 .ensures)) in
+          let circle = subst (λ (q : Point). Keeps (w .1 .result) (boundaryDisk (q ∷ s .args .a ∷ s .args .b ∷ []))) point (w .1 .ensures) in
+          let three = ran-full (Three p (s .args .a) (s .args .b)) i (at .loop .list) (w .1 .result) refl (omega (arith, kept at, fits inside)) circle in
           rw (w .5, w .3 .ensures, w .6)
           (rw (add-zero (i + 1)) at (ran-moved (R at) i l (at .loop .list) (at .loop .disk) i (room at) (fits inside) (at .loop .inv .1)
           (at .loop .list) (w .1 .result) 0 (boxed inside) (tested ∙ w .0 .taken) three)))
