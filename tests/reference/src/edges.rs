@@ -7,11 +7,13 @@ mod descriptions;
 mod drawings;
 mod records;
 mod sheets;
+mod two_fixed;
 
 pub use descriptions::descriptions;
 pub use drawings::drawings;
 pub use records::{readings, writings};
 pub use sheets::{parts, sheets};
+pub use two_fixed::fixings;
 
 /// The words of document 01 or 02 (where they leave a point open, of docs/DECISIONS.md), what a call is given, and what it must give.
 #[derive(Clone)]
@@ -27,6 +29,8 @@ pub type Answer<Value> = Result<Value, u8>;
 #[cfg(test)]
 mod tests {
     use super::*;
+    use crate::geometry::Disk;
+    use crate::procedure::{self, Cover};
     use crate::refusal::Refusal;
     use crate::{description, drawing, engine::flat, figures, record, sheet};
 
@@ -39,6 +43,17 @@ mod tests {
             assert_eq!(answer, gives.as_ref().map(Vec::len).map_err(|number| *number), "{says}");
             let written = flat(&gives.unwrap_or_default());
             assert_eq!(list, [&written, &before[written.len()..]].concat(), "{says}");
+        }
+    }
+
+    #[test]
+    fn the_procedure_with_two_points_fixed_keeps_to_them() {
+        for Edge { says, given, gives } in fixings() {
+            let mut left = given.points.clone();
+            let run = procedure::run_with(&mut left, &[given.a, given.b]);
+            let disk = gives.0.map(|[x, y, e, s]| Disk { x, y, e, s });
+            assert_eq!(run.cover, disk.map_or(Cover::NoCircle, Cover::Disk), "{says}: {given:?}");
+            assert_eq!((run.tests, left), (given.points.len() as u64, gives.1), "{says}: {given:?}");
         }
     }
 

@@ -2,7 +2,7 @@
 
 use crate::geometry::{Disk, Point};
 use crate::limits::MOST_POINTS;
-use crate::procedure;
+use crate::procedure::{self, Cover};
 use crate::refusal::Refusal;
 use crate::smallest::smallest_disk;
 use crate::support::{first_support_set, SupportSet};
@@ -30,7 +30,7 @@ pub fn solve(list: &mut [i16]) -> Result<Answer, Refusal> {
     let disk = smallest_disk(&points);
     let support = first_support_set(&points, &disk);
     let run = procedure::run(&mut points);
-    assert_eq!(run.disk, Some(disk), "the procedure and the search for the smallest disk differ");
+    assert_eq!(run.cover, Cover::Disk(disk), "the procedure and the search for the smallest disk differ");
     list.copy_from_slice(&flat(&points));
     Ok(Answer { disk, support, tests: run.tests })
 }

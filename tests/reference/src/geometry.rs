@@ -18,7 +18,7 @@ impl Point {
         (LEFT..=RIGHT).contains(&self.x) && (FOOT..=TOP).contains(&self.y)
     }
 
-    fn wide(self) -> (i128, i128) {
+    pub fn wide(self) -> (i128, i128) {
         (i128::from(self.x), i128::from(self.y))
     }
 
@@ -48,7 +48,7 @@ pub fn gcd(a: i128, b: i128) -> i128 {
 impl Disk {
     /// The disk with centre (x/e, y/e), e other than 0, and `through` on its boundary: written with e at least 1 and no common
     /// divisor of x, y and e.
-    fn about(x: i128, y: i128, e: i128, through: Point) -> Disk {
+    pub fn about(x: i128, y: i128, e: i128, through: Point) -> Disk {
         let divisor = gcd(gcd(x, y), e) * e.signum();
         let (x, y, e) = (x / divisor, y / divisor, e / divisor);
         let mut disk = Disk { x, y, e, s: 0 };

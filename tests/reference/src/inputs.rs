@@ -1,7 +1,7 @@
 //! What a call is given, where it is given more than one thing.
 
 use crate::drawing::DrawnPoint;
-use crate::geometry::Disk;
+use crate::geometry::{Disk, Point};
 use crate::support::SupportSet;
 
 /// The length of the list lent to the loader, and a description.
@@ -26,6 +26,14 @@ impl AppendCase {
         list.resize(self.room, 12_321);
         list
     }
+}
+
+/// Two different points to fix on the boundary, and a list.
+#[derive(Clone, Debug)]
+pub struct FixedCase {
+    pub a: Point,
+    pub b: Point,
+    pub points: Vec<Point>,
 }
 
 /// A glyph number and a sheet.

@@ -11,6 +11,7 @@
 //! | [`smallest`] | the smallest enclosing disk, by growing a set of at most three points |
 //! | [`support`] | the first support set (document 01: rim set), by trying all in order |
 //! | [`procedure`] | Welzl's B_MTFDISK, transcribed: count of tests and order left |
+//! | [`two_fixed`] | the smallest disk with two points on its boundary (document 02, item 5), and drawn lists for it |
 //! | [`engine`] | the disk engine: checks, then the four answers |
 //! | [`description`] | the loader |
 //! | [`drawing`] | points from a drawing program (document 02, item 2) |
@@ -47,5 +48,6 @@ pub mod sheet;
 pub mod smallest;
 pub mod stored;
 pub mod support;
+pub mod two_fixed;
 pub mod vectors;
 pub mod worst;

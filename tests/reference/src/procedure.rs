@@ -3,19 +3,34 @@
 
 use crate::geometry::{Disk, Point};
 
-/// What the procedure gives: the disk, none for the empty disk, and the number of tests.
+/// What the procedure gives for a disk.
+#[derive(Clone, Copy, PartialEq, Eq, Debug)]
+pub enum Cover {
+    /// The empty disk: every point is outside it.
+    Empty,
+    Disk(Disk),
+    /// Three points in a row have no circle, and the text has no disk there. No point is outside (docs/DECISIONS.md, 6).
+    NoCircle,
+}
+
+/// What the procedure gives, beside the list that it leaves.
 #[derive(Clone, Copy, PartialEq, Eq, Debug)]
 pub struct Run {
-    pub disk: Option<Disk>,
+    pub cover: Cover,
     pub tests: u64,
 }
 
 /// The procedure started on the list as given, with no point fixed. The list is left as the procedure leaves it.
 pub fn run(list: &mut [Point]) -> Run {
+    run_with(list, &[])
+}
+
+/// The same with the points of the set fixed.
+pub fn run_with(list: &mut [Point], fixed: &[Point]) -> Run {
     if list.len() <= 256 {
-        return b_mtfdisk(list, &[]);
+        return b_mtfdisk(list, fixed);
     }
-    on_a_deep_stack(|| b_mtfdisk(list, &[]))
+    on_a_deep_stack(|| b_mtfdisk(list, fixed))
 }
 
 /// The recursion goes as deep as the list is long.
@@ -29,27 +44,28 @@ fn on_a_deep_stack<T: Send>(work: impl FnOnce() -> T + Send) -> T {
 }
 
 /// B_MTFDISK on the list P with the set R fixed on the boundary.
-pub fn b_mtfdisk(p_list: &mut [Point], r_set: &[Point]) -> Run {
+fn b_mtfdisk(p_list: &mut [Point], r_set: &[Point]) -> Run {
     if p_list.is_empty() || r_set.len() == 3 {
-        return Run { disk: boundary_disk(r_set), tests: 0 };
+        return Run { cover: boundary_disk(r_set), tests: 0 };
     }
     let last = p_list.len() - 1;
     let p = p_list[last];
     let mut result = b_mtfdisk(&mut p_list[..last], r_set);
     result.tests += 1;
-    if is_outside(p, &result.disk) {
+    if is_outside(p, &result.cover) {
         let with_p = [r_set, &[p]].concat();
         let again = b_mtfdisk(&mut p_list[..last], &with_p);
-        result = Run { disk: again.disk, tests: result.tests + again.tests };
+        result = Run { cover: again.cover, tests: result.tests + again.tests };
         move_to_front(p_list);
     }
     result
 }
 
-fn is_outside(p: Point, disk: &Option<Disk>) -> bool {
-    match disk {
-        None => true,
-        Some(disk) => !disk.holds(p),
+fn is_outside(p: Point, cover: &Cover) -> bool {
+    match cover {
+        Cover::Empty => true,
+        Cover::Disk(disk) => !disk.holds(p),
+        Cover::NoCircle => false,
     }
 }
 
@@ -59,12 +75,12 @@ fn move_to_front(list: &mut [Point]) {
 }
 
 /// The smallest disk with the set on its boundary.
-fn boundary_disk(set: &[Point]) -> Option<Disk> {
+fn boundary_disk(set: &[Point]) -> Cover {
     match *set {
-        [] => None,
-        [a] => Some(Disk::of_one(a)),
-        [a, b] => Some(Disk::of_two(a, b)),
-        [a, b, c] => Some(Disk::of_three(a, b, c).expect("the procedure fixes no three points in a row")),
+        [] => Cover::Empty,
+        [a] => Cover::Disk(Disk::of_one(a)),
+        [a, b] => Cover::Disk(Disk::of_two(a, b)),
+        [a, b, c] => Disk::of_three(a, b, c).map_or(Cover::NoCircle, Cover::Disk),
         _ => unreachable!("the procedure fixes at most three points"),
     }
 }
@@ -82,7 +98,7 @@ mod tests {
     fn assert_run_is_right(name: &str, points: &[Point]) {
         let mut left = points.to_vec();
         let run = run(&mut left);
-        assert_eq!(run.disk, Some(smallest_disk(points)), "{name}");
+        assert_eq!(run.cover, Cover::Disk(smallest_disk(points)), "{name}");
         assert!(run.tests >= points.len() as u64, "{name}");
         assert!(run.tests <= most_tests(points.len() as u64), "{name}");
         let mut before = points.to_vec();

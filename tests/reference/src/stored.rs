@@ -4,11 +4,13 @@ use crate::damage;
 use crate::description::describe;
 use crate::edges;
 use crate::geometry::Point;
+use crate::inputs::FixedCase;
 use crate::letters;
 use crate::limits::{LIST_LENGTH, MOST_POINTS};
 use crate::lists::{self, Kind, KINDS};
 use crate::random::Random;
-use crate::vectors::{append, engine, from_description, loader, open_sheet, part, reader, writer, Vector};
+use crate::two_fixed;
+use crate::vectors::{append, engine, fixed, from_description, loader, open_sheet, part, reader, writer, Vector};
 use crate::worst;
 
 /// The cases that the repository keeps.
@@ -20,6 +22,7 @@ pub fn stored() -> Vec<Vector> {
     vectors.extend(edges());
     vectors.extend(damaged(&mut Random::new(1), 500));
     vectors.extend(appended(&mut Random::new(2), 1_000));
+    vectors.extend(stored_with_two_fixed().chain(long_with_two_fixed()).map(|case| fixed(&case)));
     vectors
 }
 
@@ -28,6 +31,7 @@ pub fn drawn(seed: u64, count: usize) -> Vec<Vector> {
     let mut random = Random::new(seed);
     let mut vectors = damaged(&mut random, count);
     vectors.extend(appended(&mut random, count));
+    vectors.extend(with_two_fixed(&mut random, count).iter().map(fixed));
     for _ in 0..count {
         let longest = random.pick(&[4, 12, 40, 300]);
         let n = 1 + random.below(longest);
@@ -56,6 +60,27 @@ fn appended(random: &mut Random, count: usize) -> Vec<Vector> {
     (0..count).map(|_| append(&damage::append(random))).collect()
 }
 
+/// `count` lists of none to 40 points for the procedure with two points fixed.
+fn with_two_fixed(random: &mut Random, count: usize) -> Vec<FixedCase> {
+    (0..count).map(|_| two_fixed::draw(random.pick(&[3, 12, 40]), random)).collect()
+}
+
+fn stored_with_two_fixed() -> impl Iterator<Item = FixedCase> {
+    with_two_fixed(&mut Random::new(3), 1_000).into_iter()
+}
+
+/// Lists of 4,096 points with two points fixed: two corners of the em box; two points of its edge next to each other, whose disk has its
+/// centre far away; two such points in its middle, with no disk.
+fn long_with_two_fixed() -> [FixedCase; 3] {
+    let pairs = [((0, -250), (1000, -250)), ((0, -250), (1, -250)), ((500, 250), (501, 250))];
+    pairs.map(|(a, b)| {
+        let [a, b] = [a, b].map(|(x, y)| Point::new(x, y));
+        let mut points = lists::draw(Kind::Uniform, MOST_POINTS, &mut Random::new(4));
+        points.iter_mut().for_each(|p| p.y = p.y.max(-249));
+        FixedCase { a, b, points }
+    })
+}
+
 fn letter_texts() -> Vec<Vec<u8>> {
     letters::LETTERS.iter().map(|letter| describe(&letters::points(letter.list))).collect()
 }
@@ -70,6 +95,7 @@ fn edge_texts() -> impl Iterator<Item = Vec<u8>> {
 fn edges() -> Vec<Vector> {
     let mut vectors: Vec<Vector> = Vec::new();
     vectors.extend(edges::descriptions().iter().map(|edge| loader(&edge.given)));
+    vectors.extend(edges::fixings().iter().map(|edge| fixed(&edge.given)));
     vectors.extend(edges::drawings().iter().map(|edge| append(&edge.given)));
     vectors.extend(edges::sheets().iter().map(|edge| open_sheet(&edge.given)));
     vectors.extend(edges::parts().iter().map(|edge| part(&edge.given)));
@@ -114,6 +140,7 @@ fn stored_lists() -> Vec<Vec<Point>> {
 #[cfg(test)]
 mod tests {
     use super::*;
+    use crate::geometry::Disk;
     use crate::listing;
     use crate::refusal::Refusal;
     use crate::vectors::{input, output, Call};
@@ -126,6 +153,17 @@ mod tests {
         let vectors = stored();
         assert!(read("stdin") == input(&vectors), "stdin");
         assert!(read("stdout") == output(&vectors).as_bytes(), "stdout");
+    }
+
+    #[test]
+    fn lists_without_a_disk_through_two_points_and_far_centres_are_among_the_cases() {
+        let disks: Vec<Option<Disk>> = stored_with_two_fixed().map(|case| two_fixed::smallest_through(&case)).collect();
+        let far = |disk: &&Disk| disk.y.abs().max(disk.x.abs()) > 10_000 * disk.e;
+        assert!(disks.iter().filter(|disk| disk.is_none()).count() >= 200);
+        assert!(disks.iter().flatten().filter(far).count() >= 50);
+        let long = long_with_two_fixed().map(|case| two_fixed::smallest_through(&case));
+        assert!(matches!(long, [Some(_), Some(_), None]));
+        assert!(long[1].iter().any(|disk| far(&disk)));
     }
 
     #[test]

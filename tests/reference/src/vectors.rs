@@ -7,10 +7,12 @@ use crate::drawing::{self, DrawnPoint};
 use crate::engine::{self, flat};
 use crate::figures;
 use crate::geometry::{Disk, Point};
-use crate::inputs::{AppendCase, LoaderCase, PartCase, SheetCase, WriterCase};
+use crate::inputs::{AppendCase, FixedCase, LoaderCase, PartCase, SheetCase, WriterCase};
 use crate::listing;
+use crate::procedure::{self, Cover};
 use crate::record;
 use crate::sheet;
+use crate::two_fixed;
 
 /// A case: the call that it is for, the bytes given and the lines printed.
 pub struct Vector {
@@ -28,6 +30,8 @@ pub enum Call {
     Engine = b'E' as isize,
     /// The loader alone.
     Loader = b'L' as isize,
+    /// The procedure with two points fixed.
+    Fixed = b'F' as isize,
     /// A drawing program's point put behind others, then the engine on them.
     Append = b'A' as isize,
     /// The sheet opener, then the part it found.
@@ -108,6 +112,23 @@ pub fn loader(case: &LoaderCase) -> Vector {
     };
     let printed = printed + &format!("list {}\n", list_checksum(&list));
     Vector { call: Call::Loader, bytes: [&room[..], &case.text].concat(), printed }
+}
+
+/// The two points that are fixed, then the list, two bytes a number, high byte first: the disk that the procedure ends on, its tests, and
+/// the checksum of the list as it is left.
+pub fn fixed(case: &FixedCase) -> Vector {
+    let mut points = case.points.clone();
+    let bytes = flat(&[&[case.a, case.b], &points[..]].concat()).iter().flat_map(|number| number.to_be_bytes()).collect();
+    let run = procedure::run_with(&mut points, &[case.a, case.b]);
+    let disk = match run.cover {
+        Cover::Disk(Disk { x, y, e, s }) => format!("disk {x} {y} {e} {s}\n"),
+        _ => "no circle\n".to_string(),
+    };
+    if let Some(smallest) = two_fixed::smallest_through(case) {
+        assert_eq!(run.cover, Cover::Disk(smallest), "the procedure and the search for the smallest disk differ");
+    }
+    let printed = disk + &format!("tests {}\nleft {}\n", run.tests, list_checksum(&flat(&points)));
+    Vector { call: Call::Fixed, bytes, printed }
 }
 
 /// The kind, 1 for whole numbers and 2 for floats; x and y in eight bytes each, floats by their bits; how many points are there in eight
