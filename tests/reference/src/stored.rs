@@ -157,13 +157,15 @@ mod tests {
 
     #[test]
     fn lists_without_a_disk_through_two_points_and_far_centres_are_among_the_cases() {
-        let disks: Vec<Option<Disk>> = stored_with_two_fixed().map(|case| two_fixed::smallest_through(&case)).collect();
-        let far = |disk: &&Disk| disk.y.abs().max(disk.x.abs()) > 10_000 * disk.e;
-        assert!(disks.iter().filter(|disk| disk.is_none()).count() >= 200);
-        assert!(disks.iter().flatten().filter(far).count() >= 50);
+        let is_without = |case: &FixedCase| two_fixed::smallest_through(case).is_none();
+        let (without, with): (Vec<_>, Vec<_>) = stored_with_two_fixed().partition(is_without);
+        let has_circles = |case: &&FixedCase| fixed(case).printed.starts_with("disk");
+        assert!(without.len() >= 200 && without.iter().filter(has_circles).count() >= 100);
+        let far = |disk: &Disk| disk.y.abs().max(disk.x.abs()) > 10_000 * disk.e;
+        assert!(with.iter().filter_map(two_fixed::smallest_through).filter(far).count() >= 100);
         let long = long_with_two_fixed().map(|case| two_fixed::smallest_through(&case));
         assert!(matches!(long, [Some(_), Some(_), None]));
-        assert!(long[1].iter().any(|disk| far(&disk)));
+        assert!(long[1].is_some_and(|disk| far(&disk)));
     }
 
     #[test]

@@ -75,7 +75,7 @@ fn disk_at(a: Point, b: Point, t: Fraction) -> Disk {
 
 // ---- drawn lists
 
-/// Two different points and up to `longest` points: of any kind, to one side of the two, along their row, or on a circle with them.
+/// Two different points and up to `longest` points: of any kind, to one side of the two, near their row, in it, or on a circle with them.
 pub fn draw(longest: usize, random: &mut Random) -> FixedCase {
     let n = random.below(longest + 1);
     let (a, b) = two_points(random);
@@ -111,14 +111,16 @@ fn to_one_side(a: Point, b: Point, n: usize, random: &mut Random) -> Vec<Point> 
     drawn.into_iter().filter(|&p| cross(a, b, p) > 0).collect()
 }
 
-/// Two points next to each other on an edge of the em box, and points up to two units from that edge: the centre is far away, or
-/// there is no disk.
+/// Two points next to each other, and points up to three units above their row: the centre is far away. In one case of three some are
+/// below, and as a rule there is no disk.
 fn near_a_row(n: usize, random: &mut Random) -> FixedCase {
-    let x = random.coordinate(LEFT, RIGHT - 1);
-    let at = |x: i16, height: i16| Point::new(x, FOOT + height);
-    let off = random.coordinate(0, 1);
-    let points = (0..n).map(|_| at(random.coordinate(LEFT, RIGHT), off + random.coordinate(0, 2))).collect();
-    FixedCase { a: at(x, off), b: at(x + 1, off), points }
+    let (x, y) = (random.coordinate(LEFT, RIGHT - 1), random.coordinate(FOOT + 3, TOP - 3));
+    let below = if random.chance(33) { 50 } else { 0 };
+    let beside = |random: &mut Random| {
+        let height = random.coordinate(1, 3);
+        Point::new(random.coordinate(LEFT, RIGHT), if random.chance(below) { y - height } else { y + height })
+    };
+    FixedCase { a: Point::new(x, y), b: Point::new(x + 1, y), points: (0..n).map(|_| beside(random)).collect() }
 }
 
 /// Points in a row with the two, and at times one beside it: three in a row have no circle.
