@@ -24,11 +24,12 @@ use Rattle.disks.proofs.Relative.{relative, point-relative, pair-relative, turn
 use Rattle.disks.proofs.LowestTerms.{lowered}
 use Rattle.disks.proofs.Tests.{relativeDisk, relative-lowered, row-weight, row-holds}
 use Rattle.disks.proofs.Bridge.{point-lowered, diameter-lowered, circle-lowered}
-use Rattle.disks.proofs.BoxLimits.{Box, turned-weight, Span, offset-x, offset-y}
+use Rattle.disks.proofs.BoxLimits.{Box, turned-weight}
 use Rattle.disks.proofs.Answer.{side, em-square, in-square}
 use Rattle.relative_disks.proofs.RelativeLaws.{near-box}
 use Rattle.relative_disks.specs.Relative.{nothing, pointAbout, diameterAbout, bySign, circleAbout, largestCoordinate, largestOffset, Near, Small}
 use Rattle.relative_disks.specs.Relative.{StandsFor, none, proper, row, Keeps}
+use Rattle.fixed_points.proofs.Offsets.{Span, offset-x, offset-y}
 
 lit-within : {B : ℕ} {z : ℤ} → T (leb (natAbs z) B) → Within B z
 lit-within t = record { within = leb→le _ _ t }
