@@ -21,7 +21,7 @@ const ROWS: [(&str, &[Row]); 5] = [
         ([(4, 0), (0, 0)], &[], Some([2, 0, 1, 4]), &[]),
         ([(0, 0), (3, 0)], &[], Some([3, 0, 2, 9]), &[]),
     ]),
-    ("A corner exactly on the rim counted as outside [a trap]; one inside; the fixed corners themselves: none moves", &[
+    ("A corner exactly on the rim counted as outside (a trap): it is not, nor is one inside or a fixed corner itself, and none moves", &[
         ([(0, 0), (4, 0)], &[(2, 2), (1, 0)], Some([2, 0, 1, 4]), &[(2, 2), (1, 0)]),
         ([(0, 0), (4, 0)], &[(2, -2), (2, 2)], Some([2, 0, 1, 4]), &[(2, -2), (2, 2)]),
         ([(0, 0), (4, 0)], &[(4, 0), (0, 0), (4, 0)], Some([2, 0, 1, 4]), &[(4, 0), (0, 0), (4, 0)]),
