@@ -7,7 +7,8 @@
 --   near-box              : a point of the em box is near
 --   outside-kept          : a kept disk has a point of the em box outside where the text's disk has
 --   weightIn c            == E of the text's cover c, 0 of the empty disk
---   stands-proper         : where that is not 0, a disk that stands for the cover is one, and in lowest terms is the text's
+--   Proper d c            == d has a positive e, and c is d in lowest terms
+--   stands-proper         : so it is where d stands for c, and E of c is not 0
 use mathlib.Core.Path.{_≡_, sym, _∙_, ap, ap₂, subst}
 use mathlib.Core.Bool.{Bool, true, false, not}
 use mathlib.Core.List.{[], _∷_}
