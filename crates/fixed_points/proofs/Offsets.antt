@@ -35,7 +35,8 @@ module _ (l : ℤ) (hl : pos 0 ≤ℤ l) where
   squares-bound ux uy vx vy a b c d s = go (≤-or-< (pos 0) uy) (≤-or-< (pos 0) vy)
     where
       go : (pos 0 ≤ℤ uy) ⊎ (uy <ℤ pos 0) → (pos 0 ≤ℤ vy) ⊎ (vy <ℤ pos 0) → (ux *ℤ ux *ℤ vy -ℤ vx *ℤ vx *ℤ uy) ≤ℤ (l *ℤ l *ℤ l)
-      go (inl h) (inl k) = nonneg (l ∷ ux ∷ uy ∷ vx ∷ vy ∷ []) (le (a .from) ⊠ le (a .to) ⊠ k ⊞ hl ⊠ hl ⊠ le (d .to) ⊞ sq vx ⊠ h) (search poly depth 30) tt
+      go (inl h) (inl k) = nonneg (l ∷ ux ∷ uy ∷ vx ∷ vy ∷ [])
+          (le (a .from) ⊠ le (a .to) ⊠ k ⊞ hl ⊠ hl ⊠ le (d .to) ⊞ sq vx ⊠ h) (search poly depth 30) tt
       go (inl h) (inr k) = nonneg (l ∷ ux ∷ uy ∷ vx ∷ vy ∷ []) (hl ⊠ hl ⊠ hl ⊞ sq ux ⊠ le (≤-of-< k) ⊞ sq vx ⊠ h) (search poly depth 30) tt
       go (inr h) (inl k) = nonneg (l ∷ ux ∷ uy ∷ vx ∷ vy ∷ [])
           (le (a .from) ⊠ le (a .to) ⊠ k ⊞ le (c .from) ⊠ le (c .to) ⊠ le (≤-of-< h) ⊞ hl ⊠ hl ⊠ le (s .to)) (search poly depth 30) tt
