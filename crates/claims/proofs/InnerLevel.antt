@@ -3,28 +3,28 @@
 --   runs-proper   : where the text's words lead to a state from a set that is not empty, its disk has an E of at least 1
 --   all-once      : with two points fixed each point is tested once
 --   inner-level   : InnerLevel
-use mathlib.Core.Path.{_≡_, refl, sym, ap, _∙_, subst}
+use mathlib.Core.Path.{_≡_, refl, sym, _∙_, subst}
 use mathlib.Core.Bool.{Bool, true, false}
-use mathlib.Core.List.{List, [], _∷_, _++_, List·Permᴰ, List·Memᴰ·eq-of-singleton, List·Memᴰ·not-nil}
-use Prim.Native.Nat.{ℕ, _+_, _*_, _≤_}
+use mathlib.Core.List.{List, [], _∷_, List·Permᴰ, List·Memᴰ·eq-of-singleton, List·Memᴰ·not-nil}
+use Prim.Native.Nat.{ℕ, _+_, _≤_}
 use native.Mathlib.Omega.{arith}
 use lib.IntN.{ℤ}
-use lib.ListN.{length, drop}
-use lib.Seq.{drop-at}
+use lib.ListN.{length}
 use Rattle.geometry.specs.declared.Point.{Point}
-use Rattle.geometry.specs.Points.{flat, firstPoints}
-use Rattle.geometry.proofs.PointLists.{length-flat, firstPoints-flat, length-firstPoints}
+use Rattle.geometry.specs.Points.{firstPoints}
+use Rattle.geometry.proofs.PointLists.{length-firstPoints}
 use Rattle.point_lists.specs.Sets.{Different}
 use Rattle.disks.specs.Smallest.{RationalDisk, Fits, SmallestWith}
 use Rattle.disks.specs.Procedure.{Cover, State, outside, tested, step, through, run, start, mtf, diskIn}
 use Rattle.disks.specs.Runs.{SmallestThrough, none, some, Runs, at-once, stays, moves}
-use Rattle.disks.proofs.EveryRun.{run-permuted, run-length}
+use Rattle.disks.proofs.EveryRun.{run-permuted}
 use Rattle.disks.proofs.Welzl.{mtf-smallest}
 use Rattle.disks.proofs.ByText.{by-text}
 use Rattle.relative_disks.specs.declared.RelativeDisk.{RelativeDisk}
 use Rattle.relative_disks.proofs.RelativeLaws.{weightIn, stands-proper}
 use Rattle.fixed_points.specs.declared.Boundary.the-variants.{Two}
 use Rattle.inner_level.specs.Ran.{Given, Ran}
+use Rattle.inner_level.proofs.RanLaws.{ran-left, ran-rest}
 use Rattle.claims.specs.InnerLevel.{endState, ByItself, InnerLevel}
 
 through-proper : {R : List Point} {c : Cover} → SmallestThrough R c → 1 ≤ length R → 1 ≤ weightIn c
@@ -66,18 +66,8 @@ module _ (a b : Point) where
     different : Different R
     different = ((λ m. differ (List·Memᴰ·eq-of-singleton m)), ((λ m. List·Memᴰ·not-nil m), tt))
 
-    size : length (mtf R P .left) ≡ n
-    size = run-length 1 R P ∙ length-firstPoints n before (given .fits)
-
     order : firstPoints n after ≡ mtf R P .left
-    order =
-        rw (ran .left-is)
-        (ap (λ (m : ℕ). firstPoints m (flat (mtf R P .left) ++ drop (2 * n) before)) (sym size) ∙ firstPoints-flat (mtf R P .left) (drop (2 * n) before))
-
-    behind : drop (2 * n) after ≡ drop (2 * n) before
-    behind =
-        rw (ran .left-is)
-        (drop-at (flat (mtf R P .left)) (drop (2 * n) before) (2 * n) (length-flat (mtf R P .left) ∙ ap (λ (m : ℕ). 2 * m) size))
+    order = ran-left (Two a b) n before after d tests (given .fits) ran
 
     alone : (s : State) → Runs R P s → s ≡ endState n after d tests
     alone s r =
@@ -105,7 +95,7 @@ module _ (a b : Point) where
       order-is = order;
       tested-once = ran .tests-is ∙ all-once P ∙ length-firstPoints n before (given .fits);
       permuted = subst (λ (Q : List Point). List·Permᴰ Q P) (sym order) (run-permuted 1 R P);
-      behind = behind;
+      behind = ran-rest (Two a b) n before after d tests (given .fits) ran;
     }
 
 pub inner-level : InnerLevel
