@@ -5,10 +5,12 @@
 --   inner-level   : InnerLevel
 use mathlib.Core.Path.{_≡_, refl, sym, _∙_, subst}
 use mathlib.Core.Bool.{Bool, true, false}
+use mathlib.Core.Logic.{_⊎_, inl, inr}
 use mathlib.Core.List.{List, [], _∷_, List·Permᴰ, List·Memᴰ·eq-of-singleton, List·Memᴰ·not-nil}
 use Prim.Native.Nat.{ℕ, _+_, _≤_}
 use native.Mathlib.Omega.{arith}
-use lib.IntN.{ℤ}
+use lib.IntN.{ℤ, pos}
+use lib.Signed.{_<ℤ_}
 use lib.ListN.{length}
 use Rattle.geometry.specs.declared.Point.{Point}
 use Rattle.geometry.specs.Points.{firstPoints}
@@ -21,11 +23,12 @@ use Rattle.disks.proofs.EveryRun.{run-permuted}
 use Rattle.disks.proofs.Welzl.{mtf-smallest}
 use Rattle.disks.proofs.ByText.{by-text}
 use Rattle.relative_disks.specs.declared.RelativeDisk.{RelativeDisk}
-use Rattle.relative_disks.proofs.RelativeLaws.{weightIn, stands-proper}
+use Rattle.relative_disks.proofs.RelativeLaws.{weightIn, Proper, stands-proper, stands-weight}
 use Rattle.fixed_points.specs.declared.Boundary.the-variants.{Two}
 use Rattle.inner_level.specs.Ran.{Given, Ran}
 use Rattle.inner_level.proofs.RanLaws.{ran-left, ran-rest}
 use Rattle.claims.specs.InnerLevel.{endState, ByItself, InnerLevel}
+use Rattle.claims.proofs.TextLeads.{InARow, text-or-row}
 
 through-proper : {R : List Point} {c : Cover} → SmallestThrough R c → 1 ≤ length R → 1 ≤ weightIn c
 through-proper none h = absurd (omega arith)
@@ -69,28 +72,40 @@ module _ (a b : Point) where
     order : firstPoints n after ≡ mtf R P .left
     order = ran-left (Two a b) n before after d tests (given .fits) ran
 
-    alone : (s : State) → Runs R P s → s ≡ endState n after d tests
-    alone s r =
-        let is = by-text .complete R P s (omega arith) different r in
-        let ended = stands-proper (ran .disk-is .stands) (subst (λ (t : State). 1 ≤ weightIn (t .cover)) is (runs-proper r (omega arith))) in
-        is ∙ (λ i. record { cover = ended .written i; tests = sym (ran .tests-is) i; left = sym order i })
+    -- where the function's disk has an E of at least 1
+    ended : 1 ≤ weightIn (mtf R P .cover) → Proper d (mtf R P .cover)
+    ended h = stands-proper (ran .disk-is .stands) h
+
+    state-is : Proper d (mtf R P .cover) → mtf R P ≡ endState n after d tests
+    state-is w = λ i. record { cover = w .written i; tests = sym (ran .tests-is) i; left = sym order i }
+
+    led : (s : State) → Runs R P s → Proper d (mtf R P .cover)
+    led s r = ended (subst (λ (t : State). 1 ≤ weightIn (t .cover)) (by-text .complete R P s (omega arith) different r) (runs-proper r (omega arith)))
+
+    leads : pos 0 <ℤ d .e → Runs R P (endState n after d tests)
+    leads h = go (text-or-row a b different P)
+      where
+        go : Runs R P (mtf R P) ⊎ InARow (mtf R P .cover) → Runs R P (endState n after d tests)
+        go (inl r) = subst (Runs R P) (state-is (led (mtf R P) r)) r
+        go (inr row) = absurd (stands-weight (ran .disk-is .stands) h (row .weightless))
 
     module _ (c : RationalDisk) (fits : Fits c P R) where
       runs : Runs R P (mtf R P)
       runs = by-text .runs-with R P (omega arith) different c fits
 
-      leads : Runs R P (endState n after d tests)
-      leads = subst (Runs R P) (alone (mtf R P) runs) runs
-
       smallest : SmallestWith P R (diskIn (endState n after d tests .cover))
       smallest =
-          subst (λ (s : State). SmallestWith P R (diskIn (s .cover))) (alone (mtf R P) runs) (mtf-smallest R P (omega arith) different (omega arith) c fits)
+          subst (λ (s : State). SmallestWith P R (diskIn (s .cover))) (state-is (led (mtf R P) runs))
+          (mtf-smallest R P (omega arith) different (omega arith) c fits)
 
     by-itself : ByItself a b n before after d tests
     by-itself = record {
       smallest = smallest;
-      text-leads = leads;
-      text-alone = alone;
+      by-text = λ s. (
+        (λ r. (led s r .positive-e, by-text .complete R P s (omega arith) different r ∙ state-is (led s r))),
+        (λ h. subst (Runs R P) (sym (h .1)) (leads (h .0))),
+      );
+      disk-there = λ c fits. led (mtf R P) (runs c fits) .positive-e;
       tests-are = ran .tests-is;
       order-is = order;
       tested-once = ran .tests-is ∙ all-once P ∙ length-firstPoints n before (given .fits);

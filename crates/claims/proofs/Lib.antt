@@ -3,6 +3,7 @@ pub mod Demand1
 pub mod Demand2
 pub mod Demand3
 pub mod FromFixed
+pub mod TextLeads
 pub mod InnerLevel
 pub mod Values
 pub mod Whole

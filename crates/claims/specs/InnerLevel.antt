@@ -5,10 +5,12 @@
 --   ByItself a b n before after d t == of the call with a and b fixed, on the first n points of `before`
 --   InnerLevel                     == so it is with "any two different corners", for "up to 4,096 corners, none included" (`Given`)
 use mathlib.Core.Path.{_≡_}
+use mathlib.Core.Logic.{_↔_}
 use mathlib.Core.List.{List, [], _∷_, List·Permᴰ}
 use Prim.Native.Nat.{ℕ, _*_}
-use lib.IntN.{ℤ}
+use lib.IntN.{ℤ, pos}
 use lib.ListN.{drop}
+use Rattle.integers.specs.Order.{_≺_}
 use Rattle.geometry.specs.declared.Point.{Point}
 use Rattle.geometry.specs.Points.{firstPoints}
 use Rattle.disks.specs.Smallest.{RationalDisk, Fits, SmallestWith}
@@ -26,10 +28,11 @@ pub record ByItself (a b : Point) (n : ℕ) (before after : List ℤ) (d : Relat
   -- "wherever some disk with both on its rim holds the list, the disk is the smallest such", over all disks with a fractional centre and squared
   -- radius; and only the same disk equals it
   pub smallest : (c : RationalDisk) → Fits c (firstPoints n before) (a ∷ b ∷ []) → SmallestWith (firstPoints n before) (a ∷ b ∷ []) (inLowestTerms d)
-  -- "disk, count and order left are exactly the text's": there document 01's words lead to this state,
-  pub text-leads : (c : RationalDisk) → Fits c (firstPoints n before) (a ∷ b ∷ []) → Runs (a ∷ b ∷ []) (firstPoints n before) (endState n after d tests)
-  -- and on every list, whether or not a disk holds it, to no other
-  pub text-alone : (s : State) → Runs (a ∷ b ∷ []) (firstPoints n before) s → s ≡ endState n after d tests
+  -- "disk, count and order left are exactly the text's": on every list on which the level ends on a disk, document 01's words lead to this state
+  -- and to nothing else; where it does not, three points were in a row, which have no circle, and the words lead nowhere
+  pub by-text : (s : State) → Runs (a ∷ b ∷ []) (firstPoints n before) s ↔ ((pos 0 ≺ d .e) × (s ≡ endState n after d tests))
+  -- it ends on one wherever some disk fits
+  pub disk-there : (c : RationalDisk) → Fits c (firstPoints n before) (a ∷ b ∷ []) → pos 0 ≺ d .e
   -- on every list count and order are those of the function `mtf` too: each point is tested once, the points are the same, each as often as
   -- before, and the numbers behind them stay
   pub tests-are : tests ≡ mtf (a ∷ b ∷ []) (firstPoints n before) .tests

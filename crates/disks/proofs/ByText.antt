@@ -67,7 +67,7 @@ runs-through (at-once h b) q m = through-held b q m
 runs-through (stays p h r o) q m = runs-through r q m
 runs-through (moves p h r o a) q m = runs-through a q (List·Memᴰ·tail m)
 
-outside-different : {R P : List Point} {s : State} {p : Point} → Runs R P s → outside (s .cover) p ≡ true → Different R → Different (p ∷ R)
+pub outside-different : {R P : List Point} {s : State} {p : Point} → Runs R P s → outside (s .cover) p ≡ true → Different R → Different (p ∷ R)
 outside-different {p} r o d = ((λ m. true≢false (sym o ∙ runs-through r p m)), d)
 
 -- ---- the state is the function's
@@ -97,7 +97,7 @@ runs-mtf {R} (suc k) size d (moves {P = P} {s = s} {again = again} p h r o a) =
 
 -- ---- the function's run is the text's
 
-by-last : (Z : List Point → Type 0) → Z [] → ((P : List Point) (p : Point) → Z P → Z (P ++ (p ∷ []))) → (P : List Point) → Z P
+pub by-last : (Z : List Point → Type 0) → Z [] → ((P : List Point) (p : Point) → Z P → Z (P ++ (p ∷ []))) → (P : List Point) → Z P
 by-last Z z f P = go [] P z
   where
     go : (Q ps : List Point) → Z Q → Z (Q ++ ps)

@@ -4,6 +4,7 @@
 --   vanishing, tripleForm   == the form that vanishes at three points; the same with its sign turned where E would be negative
 --   vanishing-only          : every form that vanishes at the three is a multiple of `vanishing`
 --   not-in-row           : three different points that some disk has on its boundary are not in a row
+--   triple-through       : of three points not in a row `tripleForm` is a disk through them
 --   triple-strong        : so `tripleForm` is strongly minimal for whatever such a disk holds
 use mathlib.Core.Path.{_≡_, refl, sym, _∙_, ap}
 use mathlib.Core.Logic.{_⊎_, inl, inr, _≢_}
@@ -17,7 +18,7 @@ use Rattle.integers.proofs.Abs.{zero-product}
 use Rattle.integers.proofs.Ring.{ring, poly, linear, eqn, _&_}
 use Rattle.integers.proofs.Order.{≤-of-eq, positive, lt, nn, <-≤-clash, Compared, less, same, more, compared, sum-squares-zero}
 use Rattle.geometry.specs.declared.Point.{Point}
-use Rattle.point_lists.specs.Sets.{Different, In}
+use Rattle.point_lists.specs.Sets.{Different}
 use Rattle.point_lists.proofs.Sets.{none-of, also, point-path}
 use Rattle.disks.specs.Procedure.{norm}
 use Rattle.disks.proofs.Lifted.{Lifted, value}
@@ -196,28 +197,36 @@ turn-weight a b c n z = go (zero-product (pos 2) (turn a b c) z)
     go (inl t) = <-≤-clash {a = pos 0} {b = pos 2} (positive [] (nn 1) (search poly depth 30) tt) (≤-of-eq t)
     go (inr t) = n t
 
-pub triple-strong : {P : List Point} {a b c : Point} {G : Lifted} → Feasible P (a ∷ b ∷ c ∷ []) G → Different (a ∷ b ∷ c ∷ [])
-    → StronglyMinimal P (a ∷ b ∷ c ∷ []) (tripleForm a b c)
-triple-strong {P} {a} {b} {c} {G} f d = record {
-  feasible = record { proper = proper; holds = λ p m. holds-by proper (f .proper) (multiple-value (only G f) p) (f .holds p m); on-boundary = on };
-  least = λ H h. ≤-of-eq (sym (multiple-no-gap proper (only H h)));
+pub triple-through : (a b c : Point) → turn a b c ≢ pos 0 → Feasible [] (a ∷ b ∷ c ∷ []) (tripleForm a b c)
+triple-through a b c n = record {
+  proper = turned-proper (vanishing a b c) (turn-weight a b c n);
+  holds = none-of (λ p. value (tripleForm a b c) p ≤ℤ pos 0);
+  on-boundary = also On (turned-vanishes s (vanishing a b c) a (vanishing-a a b c))
+      (also On (turned-vanishes s (vanishing a b c) b (vanishing-b a b c))
+      (also On (turned-vanishes s (vanishing a b c) c (vanishing-c a b c)) (none-of On)));
 }
   where
     s : Bool
     s = ltZ (vanishing a b c .e) (pos 0)
 
-    proper : pos 0 <ℤ tripleForm a b c .e
-    proper = turned-proper (vanishing a b c) (turn-weight a b c (not-in-row f d))
-
-    only : (H : Lifted) → Feasible P (a ∷ b ∷ c ∷ []) H → Multiple (tripleForm a b c) H
-    only H h = turned-multiple s (vanishing a b c) H
-        (vanishing-only a b c H (h .on-boundary a (List·Memᴰ·head refl)) (h .on-boundary b (List·Memᴰ·tail (List·Memᴰ·head refl)))
-        (h .on-boundary c (List·Memᴰ·tail (List·Memᴰ·tail (List·Memᴰ·head refl)))))
-
     On : Point → Type 0
     On q = value (tripleForm a b c) q ≡ pos 0
 
-    on : (q : Point) → In q (a ∷ b ∷ c ∷ []) → On q
-    on = also On (turned-vanishes s (vanishing a b c) a (vanishing-a a b c))
-        (also On (turned-vanishes s (vanishing a b c) b (vanishing-b a b c))
-        (also On (turned-vanishes s (vanishing a b c) c (vanishing-c a b c)) (none-of On)))
+pub triple-strong : {P : List Point} {a b c : Point} {G : Lifted} → Feasible P (a ∷ b ∷ c ∷ []) G → Different (a ∷ b ∷ c ∷ [])
+    → StronglyMinimal P (a ∷ b ∷ c ∷ []) (tripleForm a b c)
+triple-strong {P} {a} {b} {c} {G} f d = record {
+  feasible = record {
+    proper = through .proper;
+    holds = λ p m. holds-by (through .proper) (f .proper) (multiple-value (only G f) p) (f .holds p m);
+    on-boundary = through .on-boundary;
+  };
+  least = λ H h. ≤-of-eq (sym (multiple-no-gap (through .proper) (only H h)));
+}
+  where
+    through : Feasible [] (a ∷ b ∷ c ∷ []) (tripleForm a b c)
+    through = triple-through a b c (not-in-row f d)
+
+    only : (H : Lifted) → Feasible P (a ∷ b ∷ c ∷ []) H → Multiple (tripleForm a b c) H
+    only H h = turned-multiple (ltZ (vanishing a b c .e) (pos 0)) (vanishing a b c) H
+        (vanishing-only a b c H (h .on-boundary a (List·Memᴰ·head refl)) (h .on-boundary b (List·Memᴰ·tail (List·Memᴰ·head refl)))
+        (h .on-boundary c (List·Memᴰ·tail (List·Memᴰ·tail (List·Memᴰ·head refl)))))

@@ -1,5 +1,6 @@
 -- The disks of none to three points of the em box, relative to the first: each is the text's, and its numbers are small.
 --
+--   row-circle : the circle of three points in a row, by its formula
 --   keeps-none, keeps-point, keeps-diameter, keeps-circle : Keeps, of `boundaryDisk` of so many points
 use mathlib.Core.Path.{_≡_, refl, _∙_, ap, subst}
 use mathlib.Core.Bool.{Bool, true, false}
@@ -118,13 +119,16 @@ module _ (a b c : Point) where
   turned-round h =
       as-relative a (negℤ e) (negℤ gx) (negℤ gy) (circle-lowered a b c) (ap (λ (t : Bool). turned t (vanishing a b c)) h ∙ turned-relative a e gx gy)
 
+  pub row-circle : e ≡ pos 0 → circle a b c ≡ lowestTerms gx gy 0 (natAbs (norm gx gy))
+  row-circle zero = as-is (ap (λ (z : ℤ). ltZ z (pos 0)) zero) ∙ row-is a e gx gy zero
+
   stands-by : (t n : Bool) → ltZ (pos 0) e ≡ t → ltZ e (pos 0) ≡ n → StandsFor (bySign t n e (a .x) (a .y) gx gy) (disk (circle a b c))
   stands-by true true h k = <-≤-clash (lt-true (pos 0) e h) (≤-of-< (lt-true e (pos 0) k))
   stands-by true false h k = proper (lt-true (pos 0) e h) (ap disk (as-is k))
   stands-by false true h k = proper (neg-positive e (lt-true e (pos 0) k)) (ap disk (turned-round k))
   stands-by false false h k =
       let zero : e ≡ pos 0 = ≤-antisym (lt-false (pos 0) e h) (lt-false e (pos 0) k) in
-      row zero refl refl (lowestTerms gx gy 0 (natAbs (norm gx gy))) (ap disk (as-is k ∙ row-is a e gx gy zero)) (row-weight gx gy) (row-holds gx gy)
+      row zero refl refl (lowestTerms gx gy 0 (natAbs (norm gx gy))) (ap disk (row-circle zero)) (row-weight gx gy) (row-holds gx gy)
 
   module _ (ha : inEmBox a ≡ true) (hb : inEmBox b ≡ true) (hc : inEmBox c ≡ true) where
     box-a : Box (em .left) (em .foot) (side em) a

@@ -9,6 +9,7 @@
 --   weightIn c            == E of the text's cover c, 0 of the empty disk
 --   Proper d c            == d has a positive e, and c is d in lowest terms
 --   stands-proper         : so it is where d stands for c, and E of c is not 0
+--   stands-weight         : and E of c is not 0 where e of d is positive
 use mathlib.Core.Path.{_≡_, sym, _∙_, ap, ap₂, subst}
 use mathlib.Core.Bool.{Bool, true, false, not}
 use mathlib.Core.List.{[], _∷_}
@@ -22,6 +23,7 @@ use Rattle.integers.proofs.Tests.{test-true}
 use Rattle.integers.specs.Order.{Within}
 use Rattle.integers.proofs.Bounds.{leaf-back}
 use Rattle.integers.proofs.Order.{positive, nn, _⊞_, _⊠_, lt}
+use Rattle.integers.proofs.Laws.{*-zero}
 use Rattle.integers.proofs.Ring.{ring, poly}
 use Rattle.geometry.specs.declared.Point.{Point}
 use Rattle.geometry.specs.EmBox.{em, inEmBox, leftOfBox}
@@ -29,7 +31,8 @@ use Rattle.geometry.proofs.EmBox.{point-size, right-of}
 use Rattle.disks.specs.Procedure.{Cover, empty, disk, outside, norm}
 use Rattle.disks.proofs.Lifted.{value}
 use Rattle.disks.proofs.Relative.{relative}
-use Rattle.disks.proofs.Tests.{outside-relative}
+use Rattle.disks.proofs.Base.{positive-not-zero}
+use Rattle.disks.proofs.Tests.{relative-written, outside-relative}
 use Rattle.relative_disks.specs.declared.RelativeDisk.{RelativeDisk}
 use Rattle.relative_disks.specs.Relative.{beyond, isOutside, nothing, bySign, circleAbout, largestCoordinate, Near, inLowestTerms, StandsFor, none}
 use Rattle.relative_disks.specs.Relative.{proper, row, Keeps}
@@ -121,3 +124,10 @@ pub stands-proper : {d : RelativeDisk} {c : Cover} → StandsFor d c → 1 ≤ w
 stands-proper (none d-is f) some = absurd (omega (arith, subst (λ (x : Cover). 1 ≤ weightIn x) f some))
 stands-proper (proper s f) some = record { positive-e = s; written = f }
 stands-proper (row he hx hy k f z all) some = absurd (omega (arith, z, subst (λ (x : Cover). 1 ≤ weightIn x) f some))
+
+pub stands-weight : {d : RelativeDisk} {c : Cover} → StandsFor d c → pos 0 <ℤ d .e → weightIn c ≡ 0 → ⊥
+stands-weight (none d-is f) h z = positive-not-zero h (ap (λ (x : RelativeDisk). x .e) d-is)
+stands-weight {d} (proper s f) h z =
+    let w = relative-written (point d) (d .e) (d .gx) (d .gy) h in
+    positive-not-zero h (w .e-is ∙ ap (λ (n : ℕ). pos (w .g) *ℤ pos n) (sym (ap weightIn f) ∙ z) ∙ *-zero (pos (w .g)))
+stands-weight (row he hx hy k f e-none all) h z = positive-not-zero h he
