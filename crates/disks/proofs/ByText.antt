@@ -2,8 +2,10 @@
 --
 --   boundary-through  : `boundaryDisk R` is the smallest disk with R on its boundary, if there is any
 --   through-boundary  : and no other is
---   runs-through      : a state that the text leads to has R on its boundary, so that a point outside is none of R
+--   runs-through      : a state that the text leads to has R on its boundary
+--   outside-different : so a point outside is none of R
 --   runs-mtf          : it is the function's
+--   by-last           : what holds of no point, and of one point more behind a list, holds of every list
 --   run-by-text       : a run for which some disk is feasible is a run by the text's rule
 --   by-text           : ByText
 use mathlib.Core.Path.{_≡_, refl, sym, _∙_, ap, subst}
