@@ -5,7 +5,6 @@ use lines::Scanned;
 ghost use mathlib.Core.Path.{_≡_};
 ghost use Prim.Native.Nat.{_*_, _<_, _≤_};
 ghost use lib.ListN.{length, drop};
-ghost use lib.Seq.{paste};
 ghost use Rattle.description.specs.Description.{linesRead, named, byLine, loadOf, listAfter, outcome};
 ghost use Rattle.description.specs.Verdict.{StepAt, Kept};
 
@@ -77,16 +76,6 @@ fn judge(text: &[u8], found: &mut [i16]) -> Loaded
     Loaded::Points(n)
 }
 
-// Copies the first n numbers of one list over those of another.
-fn copy_front(source: &[i16], n: usize, list: &mut [i16])
-    requires { ⌜ (n ≤ length (now source)) × (n ≤ length (now list)) ⌝ }
-    ensures { λ _. ⌜ now (list .exit) ≡ paste (now (list .entry)) 0 (now (source .entry)) n ⌝ }
-{
-    for i in 0..n {
-        list[i] = source[i];
-    }
-}
-
 // The loader's work where text and list have the size that they need: the points stand in found until the whole text is judged.
 fn load_through(text: &[u8], found: &mut [i16], list: &mut [i16]) -> Loaded
     requires { ⌜ (8192 ≤ length (now found)) × (8192 ≤ length (now list)) × (length (now text) ≤ 65535) ⌝ }
@@ -95,7 +84,7 @@ fn load_through(text: &[u8], found: &mut [i16], list: &mut [i16]) -> Loaded
 {
     match judge(text, found) {
         Loaded::Points(n) => {
-            copy_front(found, 2 * n, list);
+            point_lists::copy_front(found, 2 * n, list);
             Loaded::Points(n)
         }
         Loaded::Refused(r) => Loaded::Refused(r),

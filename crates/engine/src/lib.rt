@@ -8,10 +8,17 @@ ghost use lib.ListN.{length};
 ghost use Rattle.geometry.specs.EmBox.{allInEmBox};
 ghost use Rattle.geometry.specs.Points.{points};
 ghost use Rattle.engine.specs.Engine.{outcome, encloseOf, listAfter};
+ghost use Rattle.engine.specs.Checks.{Checks};
 
 pub enum Enclosed {
     // The disk, its first support set, and how many tests the procedure made.
     Found(Disk, SupportSet, u64),
+    Refused(Refusal),
+}
+
+// What the engine's checks say of a list.
+pub enum Checked {
+    Passed,
     Refused(Refusal),
 }
 
@@ -29,26 +36,38 @@ pub fn all_in_em_box(list: &[i16]) -> bool
     all
 }
 
+// The engine's own checks of a list, in their order.
+pub fn check(list: &[i16]) -> Checked
+    ensures { λ r. ⌜ Checks (now (list .entry)) r ⌝ }
+{
+    if list.len() % 2 == 1 {
+        return Checked::Refused(Refusal::OddLength);
+    }
+    if list.len() == 0 {
+        return Checked::Refused(Refusal::NoPoint);
+    }
+    if 4096 < list.len() / 2 {
+        return Checked::Refused(Refusal::TooMany);
+    }
+    if !all_in_em_box(list) {
+        return Checked::Refused(Refusal::OutsideBox);
+    }
+    Checked::Passed
+}
+
 // The smallest disk that holds the list's points, by Welzl's move-to-front procedure (01: the disk engine). The list is left as the
 // procedure leaves it; a refused list is unchanged.
 pub fn smallest_disk(list: &mut [i16]) -> Enclosed
     ensures answer { λ r. ⌜ outcome r ≡ encloseOf (now (list .entry)) ⌝ }
     ensures order { λ _. ⌜ now (list .exit) ≡ listAfter (now (list .entry)) ⌝ }
 {
-    if list.len() % 2 == 1 {
-        return Enclosed::Refused(Refusal::OddLength);
+    match check(list) {
+        Checked::Passed => {
+            let run = welzl::smallest(list);
+            let disk = run.disk;
+            let set = support::first_support(list, disk);
+            Enclosed::Found(disk, set, run.tests)
+        }
+        Checked::Refused(r) => Enclosed::Refused(r),
     }
-    if list.len() == 0 {
-        return Enclosed::Refused(Refusal::NoPoint);
-    }
-    if 4096 < list.len() / 2 {
-        return Enclosed::Refused(Refusal::TooMany);
-    }
-    if !all_in_em_box(list) {
-        return Enclosed::Refused(Refusal::OutsideBox);
-    }
-    let run = welzl::smallest(list);
-    let disk = run.disk;
-    let set = support::first_support(list, disk);
-    Enclosed::Found(disk, set, run.tests)
 }

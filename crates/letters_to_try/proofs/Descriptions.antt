@@ -2,8 +2,7 @@
 --
 --   letters-described, edges-load : the letters and the edges
 --   numbers-read                  : the words of document 02's item 1
---   has p Q, each P Q             == p is one of Q, each of P is: as tests
---   has-in, each-in               : so they are
+--   each-in                       : points that pass the test are in the list
 --   writings-agree                : the writings
 use mathlib.Core.Path.{_≡_, refl, sym, _∙_, subst}
 use mathlib.Core.Logic.{_⊎_, inl, inr}
@@ -24,9 +23,8 @@ use Rattle.lines.specs.Line.{joinPiece, pieces, nonEmpty, lineOfWords}
 use Rattle.numerals.specs.Numeral.{allDigits, decimal, digits, numeral}
 use Rattle.description.specs.Description.{linesRead, pointsOn, byLine, named}
 use Rattle.description.proofs.Loading.{load-judged}
-use Rattle.point_lists.specs.Sets.{In}
-use Rattle.record_reader.specs.Reading.{same}
-use Rattle.record_reader.proofs.SamePoint.{same-eq}
+use Rattle.point_lists.specs.Sets.{In, same, has, allOf}
+use Rattle.point_lists.proofs.SetTests.{has-in, all-in}
 use Rattle.letter.specs.Letter.{room}
 use Rattle.claims.specs.Demand3.{AcceptedDescription}
 use Rattle.letters_to_try.specs.Letters.{Letter, letters}
@@ -89,31 +87,8 @@ numbers-read = refl & refl & refl & refl & refl & refl & refl & refl & refl & re
 
 -- ---- two writings
 
-has : Point → List Point → Bool
-has p [] = false
-has p (q ∷ Q) = same p q || has p Q
-
-each : List Point → List Point → Bool
-each [] Q = true
-each (p ∷ P) Q = has p Q && each P Q
-
-has-in : (p : Point) (Q : List Point) → has p Q ≡ true → In p Q
-unfolding has
-has-in p [] h = absurd (true≢false (sym h))
-has-in p (q ∷ Q) h = go (same p q) refl (has-in p Q) h
-  where
-    go : (b : Bool) → same p q ≡ b → (has p Q ≡ true → In p Q) → b || has p Q ≡ true → In p (q ∷ Q)
-    go true e f k = List·Memᴰ·head (same-eq p q e)
-    go false e f k = List·Memᴰ·tail (f k)
-
-each-in : (P Q : List Point) → each P Q ≡ true → (p : Point) → In p P → In p Q
-unfolding each
-each-in [] Q h p i = absurd (List·Memᴰ·not-nil i)
-each-in (q ∷ P) Q h p i = go (each-in P Q (rest (has q Q) (each P Q) h) p) (List·Memᴰ·cases-cons i)
-  where
-    go : (In p P → In p Q) → (p ≡ q) ⊎ In p P → In p Q
-    go f (inl e) = subst (λ (r : Point). In r Q) (sym e) (has-in q Q (first (has q Q) (each P Q) h))
-    go f (inr k) = f k
+each-in : (P Q : List Point) → allOf (has Q) P ≡ true → (p : Point) → In p P → In p Q
+each-in P Q h p i = has-in Q p (all-in (has Q) P h p i)
 
 room-long : 8192 ≤ length room
 room-long = subst (λ (n : ℕ). 8192 ≤ n) (sym (length-replicate 8192 (pos 0))) (omega arith)
@@ -122,7 +97,7 @@ accepted : (t : String) (n : ℕ) → Loads (bytes t) (given n) → AcceptedDesc
 accepted t n h = record { list = room; count = n; loads = h .answers room room-long }
 
 agree : (t u : String) (m n : ℕ) → Loads (bytes t) (given m) → Loads (bytes u) (given n)
-    → each (named (bytes t)) (named (bytes u)) ≡ true → each (named (bytes u)) (named (bytes t)) ≡ true
+    → allOf (has (named (bytes u))) (named (bytes t)) ≡ true → allOf (has (named (bytes t))) (named (bytes u)) ≡ true
     → Agree t u
 agree t u m n h k to from = record {
   answers = demand-three .descriptions (bytes t) (bytes u) (accepted t m h) (accepted u n k)
@@ -130,7 +105,7 @@ agree t u m n h k to from = record {
 }
 
 pub writings-agree : AllAgree writings
-unfolding joinPiece pieces nonEmpty allDigits decimal digits numeral lineOfWords pointsOn byLine inBox same has each
+unfolding joinPiece pieces nonEmpty allDigits decimal digits numeral lineOfWords pointsOn byLine inBox same has allOf
 writings-agree =
     agree _ _ 4 5 (loads _ refl refl) (loads _ refl refl) refl refl
     & agree _ _ 3 4 (loads _ refl refl) (loads _ refl refl) refl refl

@@ -9,9 +9,10 @@ use Rattle.divisors.specs.Divisor.{gcd, steps}
 use Rattle.geometry.specs.EmBox.{allInBox, inBox}
 use Rattle.geometry.specs.Order.{before}
 use Rattle.point_lists.specs.Rising.{rising}
+use Rattle.point_lists.specs.Sets.{same}
 use Rattle.validity.specs.Valid.{centreInBox, validDiskIn, validPointsIn, validIn}
 use Rattle.record_writer.specs.Bytes.{recordBytes}
-use Rattle.record_reader.specs.Reading.{same, meant}
+use Rattle.record_reader.specs.Reading.{meant}
 use Rattle.letters_to_try.proofs.Letters.{_&_}
 use Rattle.letters_to_try.specs.Records.{records, AllRead, Written}
 

@@ -1,4 +1,6 @@
 pub mod Sets
+pub mod SamePoint
+pub mod SetTests
 pub mod Order
 pub mod Rising
 pub mod Put

@@ -1,4 +1,3 @@
 pub mod Meaning
-pub mod SamePoint
 pub mod RecordFields
 pub mod RoundTrip

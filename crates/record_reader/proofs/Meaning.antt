@@ -16,8 +16,9 @@ use Rattle.geometry.specs.declared.Point.{Point}
 use Rattle.integers.specs.Order.{eqZ}
 use Rattle.geometry.specs.Order.{before}
 use Rattle.record_writer.specs.Bytes.{madeThree}
-use Rattle.record_reader.specs.Reading.{same, meant}
-use Rattle.record_reader.proofs.SamePoint.{same-eq, same-refl}
+use Rattle.point_lists.specs.Sets.{same}
+use Rattle.point_lists.proofs.SamePoint.{same-eq, same-refl}
+use Rattle.record_reader.specs.Reading.{meant}
 
 -- no number is below itself
 not-below-itself : (a : ℤ) → ltZ a a ≡ false

@@ -21,8 +21,8 @@ use Rattle.big_endian.specs.Fields.{get}
 use Rattle.twos_complement.specs.Twos.{back}
 use Rattle.geometry.specs.declared.Point.{Point}
 use Rattle.geometry.specs.declared.Disk.{Disk}
-use Rattle.integers.specs.Order.{eqZ}
 use Rattle.geometry.specs.Plane.{members}
+use Rattle.point_lists.specs.Sets.{same}
 use Rattle.validity.specs.Valid.{valid}
 use Rattle.record_writer.specs.Layout.{numberWidth, coordinateWidth, countWidth, xAt, yAt, eAt, sAt, firstAt, secondAt, thirdAt, countAt, recordLength}
 use Rattle.record_reader.specs.declared.Record.{Record}
@@ -36,9 +36,6 @@ diskIn bs = record { x = signedAt numberWidth xAt bs; y = signedAt numberWidth y
 
 abbrev pub pointIn : ℕ → List ℕ → Point
 pointIn at bs = record { x = signedAt coordinateWidth at bs; y = signedAt coordinateWidth (at + coordinateWidth) bs }
-
-unfoldable pub same : Point → Point → Bool
-same p q = eqZ (p .x) (q .x) && eqZ (p .y) (q .y)
 
 unfoldable pub meant : Point → Point → Point → List Point
 meant a b c = count (same b c) (same a b)

@@ -5,7 +5,7 @@ ghost use lib.Dec.{eqb};
 ghost use lib.ListN.{length};
 ghost use Rattle.geometry.specs.Plane.{members};
 ghost use Rattle.record_writer.specs.Layout.{coordinateWidth, pointWidth, firstAt, recordLength};
-ghost use Rattle.record_reader.specs.Reading.{signedAt, diskIn, pointIn, same, meant, pointsIn, countIn, readOf, outcome};
+ghost use Rattle.record_reader.specs.Reading.{signedAt, diskIn, pointIn, meant, pointsIn, countIn, readOf, outcome};
 use answers::Refusal;
 use geometry::Disk;
 use geometry::Point;
@@ -44,21 +44,12 @@ fn get_point(bytes: &[u8], at: usize) -> Point
     Point { x, y }
 }
 
-fn is_same(p: Point, q: Point) -> bool
-    ensures { λ r. ⌜ r ≡ same p q ⌝ }
-{
-    if p.x == q.x {
-        return p.y == q.y;
-    }
-    false
-}
-
 // The points that three written ones stand for.
 fn without_repeats(a: Point, b: Point, c: Point) -> SupportSet
     ensures { λ r. ⌜ members r ≡ meant a b c ⌝ }
 {
-    if is_same(b, c) {
-        if is_same(a, b) {
+    if point_lists::is_same(b, c) {
+        if point_lists::is_same(a, b) {
             return SupportSet::One(a);
         }
         return SupportSet::Two(a, b);

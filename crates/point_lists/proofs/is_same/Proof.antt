@@ -1,4 +1,4 @@
--- `record_reader::is_same` meets its contract: both coordinates are compared by their bits.
+-- `point_lists::is_same` meets its contract: both coordinates are compared by their bits.
 use mathlib.Core.Path.{_≡_, sym, _∙_}
 use borrow.Author.Tests.{eq-eqb, ne-eqb}
 use lib.Dec.{eqb}
@@ -7,10 +7,10 @@ use mir.Syntax.{w16}
 use Rattle.integers.proofs.Tests.{stop, pass}
 use Rattle.geometry.specs.declared.Point.{Point}
 use Rattle.integers.specs.Order.{eqZ}
-use Rattle.record_reader.specs.Reading.{same}
-use Rattle.record_reader.proofs.SamePoint.{same-bits}
-use Rattle.record_reader.proofs.is_same.Statement.{statement}
-use Rattle.record_reader.proofs.is_same.Tie as tie
+use Rattle.point_lists.specs.Sets.{same}
+use Rattle.point_lists.proofs.SamePoint.{same-bits}
+use Rattle.point_lists.proofs.is_same.Statement.{statement}
+use Rattle.point_lists.proofs.is_same.Tie as tie
 
 module _ (c : tie.After-struct-told2) where
   abbrev p : Point

@@ -17,7 +17,7 @@ use Rattle.integers.proofs.Bounds.{le-true}
 use Rattle.integers.proofs.Order.{≤-refl, ≤-antisym}
 use Rattle.geometry.specs.declared.Point.{Point}
 use Rattle.integers.specs.Order.{eqZ}
-use Rattle.record_reader.specs.Reading.{same}
+use Rattle.point_lists.specs.Sets.{same}
 
 pub eqZ-eq : (a b : ℤ) → eqZ a b ≡ true → a ≡ b
 eqZ-eq a b h = ≤-antisym (le-true a b (first (leZ a b) (leZ b a) h)) (le-true b a (rest (leZ a b) (leZ b a) h))

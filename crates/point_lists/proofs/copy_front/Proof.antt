@@ -1,4 +1,4 @@
--- `description::copy_front` meets its contract. The invariant: the first i numbers are copied, and the rest is as it was.
+-- `point_lists::copy_front` meets its contract. The invariant: the first i numbers are copied, and the rest is as it was.
 use Prim.Native.Nat.{ℕ, _-_, _≤_}
 use mathlib.Core.Path.{_≡_, sym, _∙_, ap, ap₂}
 use mathlib.Core.List.{List}
@@ -9,8 +9,8 @@ use lib.IntN.{ℤ, pos}
 use lib.ListN.{length, getD, set}
 use lib.Seq.{paste, paste-zero, paste-suc, length-paste}
 use mir.Facts.{toZ-ofZ}
-use Rattle.description.proofs.copy_front.Statement.{statement}
-use Rattle.description.proofs.copy_front.Tie as tie
+use Rattle.point_lists.proofs.copy_front.Statement.{statement}
+use Rattle.point_lists.proofs.copy_front.Tie as tie
 
 abbrev Inv-loop : tie.InvT-loop
 Inv-loop source n list₀ i₀ list i = (i ≤ n) × (list ≡ paste list₀ 0 source i)
