@@ -86,7 +86,7 @@ fn long_with_two_fixed() -> [FixedCase; 3] {
     })
 }
 
-/// `count` lists, most of up to 40 points, with one or two chosen.
+/// `count` lists of up to 45 points with one or two chosen.
 fn with_chosen(random: &mut Random, count: usize) -> Vec<ChosenCase> {
     (0..count).map(|_| chosen::draw(random.pick(&[4, 12, 40, 40]), random)).collect()
 }
