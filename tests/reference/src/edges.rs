@@ -3,12 +3,14 @@
 //! Each edge is a test of this implementation (below) and a stored case of the product ([`crate::stored`]). What must come out was
 //! worked out by no program.
 
+mod chosen;
 mod descriptions;
 mod drawings;
 mod records;
 mod sheets;
 mod two_fixed;
 
+pub use chosen::choices;
 pub use descriptions::descriptions;
 pub use drawings::drawings;
 pub use records::{readings, writings};
@@ -29,6 +31,7 @@ pub type Answer<Value> = Result<Value, u8>;
 #[cfg(test)]
 mod tests {
     use super::*;
+    use crate::chosen::smallest_disk_through;
     use crate::geometry::Disk;
     use crate::procedure::{self, Cover};
     use crate::refusal::Refusal;
@@ -54,6 +57,15 @@ mod tests {
             let disk = gives.0.map(|[x, y, e, s]| Disk { x, y, e, s });
             assert_eq!(run.cover, disk.map_or(Cover::NoCircle, Cover::Disk), "{says}: {given:?}");
             assert_eq!((run.tests, left), (given.points.len() as u64, gives.1), "{says}: {given:?}");
+        }
+    }
+
+    #[test]
+    fn the_call_for_chosen_points_keeps_to_them() {
+        for Edge { says, given, gives } in choices() {
+            let answer = smallest_disk_through(&given.list, given.chosen).map_err(Refusal::number);
+            let disk = gives.map(|[x, y, e, s]| Disk { x, y, e, s });
+            assert_eq!(answer, disk, "{says}: {:?} of {} numbers", given.chosen, given.list.len());
         }
     }
 

@@ -35,7 +35,8 @@ pub fn solve(list: &mut [i16]) -> Result<Answer, Refusal> {
     Ok(Answer { disk, support, tests: run.tests })
 }
 
-fn accepted_points(list: &[i16]) -> Result<Vec<Point>, Refusal> {
+/// The points of a list that keeps to the engine's checks: refusals 9, 5, 4, 3.
+pub fn accepted_points(list: &[i16]) -> Result<Vec<Point>, Refusal> {
     if !list.len().is_multiple_of(2) {
         return Err(Refusal::OddLength);
     }

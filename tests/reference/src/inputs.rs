@@ -1,5 +1,6 @@
 //! What a call is given, where it is given more than one thing.
 
+use crate::chosen::Chosen;
 use crate::drawing::DrawnPoint;
 use crate::geometry::{Disk, Point};
 use crate::support::SupportSet;
@@ -34,6 +35,14 @@ pub struct FixedCase {
     pub a: Point,
     pub b: Point,
     pub points: Vec<Point>,
+}
+
+/// The points chosen for the boundary; what stands in the second's place where one is chosen, and is not used; and a list of numbers.
+#[derive(Clone, Debug)]
+pub struct ChosenCase {
+    pub chosen: Chosen,
+    pub unused: Point,
+    pub list: Vec<i16>,
 }
 
 /// A glyph number and a sheet.

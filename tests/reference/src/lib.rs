@@ -12,6 +12,7 @@
 //! | [`support`] | the first support set (document 01: rim set), by trying all in order |
 //! | [`procedure`] | Welzl's B_MTFDISK, transcribed: count of tests and order left |
 //! | [`two_fixed`] | the smallest disk with two points on its boundary (document 02, item 5), and drawn lists for it |
+//! | [`chosen`] | the smallest disk with one or two points of the list on its boundary (document 02, item 6), and drawn lists for it |
 //! | [`engine`] | the disk engine: checks, then the four answers |
 //! | [`description`] | the loader |
 //! | [`drawing`] | points from a drawing program (document 02, item 2) |
@@ -27,6 +28,7 @@
 //! | [`vectors`] | a case of the test program for each call, in its layout |
 //! | [`stored`] | the stored cases |
 
+pub mod chosen;
 pub mod damage;
 pub mod definition;
 pub mod description;

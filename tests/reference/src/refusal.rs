@@ -14,6 +14,8 @@ pub enum Refusal {
     OddLength = 9,
     NoGlyph = 10,
     NotWhole = 11,
+    NotInList = 12,
+    NoDisk = 13,
 }
 
 impl Refusal {

@@ -21,7 +21,7 @@ pub fn smallest_disk(points: &[Point]) -> Disk {
     }
 }
 
-fn farthest_outside(disk: &Disk, points: &[Point]) -> Option<Point> {
+pub fn farthest_outside(disk: &Disk, points: &[Point]) -> Option<Point> {
     let outside = points.iter().copied().filter(|&p| !disk.holds(p));
     outside.max_by_key(|&p| disk.scaled_square_distance(p))
 }

@@ -1,16 +1,18 @@
 //! The cases that the repository keeps, and further ones by their seed.
 
+use crate::chosen::{self, Chosen};
 use crate::damage;
 use crate::description::describe;
 use crate::edges;
+use crate::engine::flat;
 use crate::geometry::Point;
-use crate::inputs::FixedCase;
+use crate::inputs::{ChosenCase, FixedCase};
 use crate::letters;
 use crate::limits::{LIST_LENGTH, MOST_POINTS};
 use crate::lists::{self, Kind, KINDS};
 use crate::random::Random;
 use crate::two_fixed;
-use crate::vectors::{append, engine, fixed, from_description, loader, open_sheet, part, reader, writer, Vector};
+use crate::vectors::{append, chosen, engine, fixed, from_description, loader, open_sheet, part, reader, writer, Vector};
 use crate::worst;
 
 /// The cases that the repository keeps.
@@ -23,6 +25,8 @@ pub fn stored() -> Vec<Vector> {
     vectors.extend(damaged(&mut Random::new(1), 500));
     vectors.extend(appended(&mut Random::new(2), 1_000));
     vectors.extend(stored_with_two_fixed().chain(long_with_two_fixed()).map(|case| fixed(&case)));
+    vectors.extend(edges::choices().iter().map(|edge| chosen(&edge.given)));
+    vectors.extend(stored_with_chosen().chain(long_with_chosen()).map(|case| chosen(&case)));
     vectors
 }
 
@@ -37,6 +41,7 @@ pub fn drawn(seed: u64, count: usize) -> Vec<Vector> {
         let n = 1 + random.below(longest);
         vectors.push(from_description(describe(&lists::draw(random.pick(&KINDS), n, &mut random))));
     }
+    vectors.extend(with_chosen(&mut random, count).iter().map(chosen));
     vectors
 }
 
@@ -78,6 +83,28 @@ fn long_with_two_fixed() -> [FixedCase; 3] {
         let mut points = lists::draw(Kind::Uniform, MOST_POINTS, &mut Random::new(4));
         points.iter_mut().for_each(|p| p.y = p.y.max(-249));
         FixedCase { a, b, points }
+    })
+}
+
+/// `count` lists of up to 45 points with one or two chosen.
+fn with_chosen(random: &mut Random, count: usize) -> Vec<ChosenCase> {
+    (0..count).map(|_| chosen::draw(random.pick(&[4, 12, 40, 40]), random)).collect()
+}
+
+fn stored_with_chosen() -> impl Iterator<Item = ChosenCase> {
+    with_chosen(&mut Random::new(5), 1_000).into_iter()
+}
+
+/// Lists of 4,096 points with chosen ones: a point of the em box's edge, and two next to each other, whose disks have their centres far
+/// away; a point in its middle, with no disk.
+fn long_with_chosen() -> [ChosenCase; 3] {
+    let [one, next, middle] = [(500, -250), (501, -250), (500, 250)].map(|(x, y)| Point::new(x, y));
+    [Chosen::One(one), Chosen::Two(one, next), Chosen::One(middle)].map(|chosen| {
+        let set = chosen.set();
+        let mut points = lists::draw(Kind::Uniform, MOST_POINTS, &mut Random::new(6));
+        points.iter_mut().for_each(|p| p.y = p.y.max(-249));
+        points[MOST_POINTS / 2..][..set.len()].copy_from_slice(&set);
+        ChosenCase { chosen, unused: one, list: flat(&points) }
     })
 }
 
@@ -140,6 +167,7 @@ fn stored_lists() -> Vec<Vec<Point>> {
 #[cfg(test)]
 mod tests {
     use super::*;
+    use crate::chosen::smallest_disk_through;
     use crate::geometry::Disk;
     use crate::listing;
     use crate::refusal::Refusal;
@@ -168,14 +196,44 @@ mod tests {
         assert!(long[1].is_some_and(|disk| far(&disk)));
     }
 
+    fn through_chosen(case: &ChosenCase) -> Result<Disk, Refusal> {
+        smallest_disk_through(&case.list, case.chosen)
+    }
+
+    #[test]
+    fn chosen_points_with_every_kind_of_answer_are_among_the_cases() {
+        let cases: Vec<ChosenCase> = stored_with_chosen().collect();
+        let refused = |refusal: Refusal| cases.iter().filter(|case| through_chosen(case) == Err(refusal)).count();
+        assert!(refused(Refusal::NoDisk) >= 200 && refused(Refusal::NotInList) >= 40);
+        assert!([Refusal::OutsideBox, Refusal::NoPoint, Refusal::OddLength].into_iter().all(|refusal| refused(refusal) >= 5));
+        let through = |size: usize| {
+            let of_size = cases.iter().filter(move |case| case.chosen.set().len() == size);
+            of_size.filter_map(|case| through_chosen(case).ok()).collect::<Vec<Disk>>()
+        };
+        let [one, two] = [through(1), through(2)];
+        assert!(one.len() >= 300 && two.len() >= 300);
+        let is_outside = |disk: &&Disk| disk.x < 0 || disk.x > 1000 * disk.e || disk.y < -250 * disk.e || disk.y > 750 * disk.e;
+        assert!([one, two].iter().all(|disks| disks.iter().filter(is_outside).count() >= 20));
+    }
+
+    #[test]
+    fn long_lists_with_chosen_points_have_far_centres_or_no_disk() {
+        let answers = long_with_chosen().map(|case| through_chosen(&case));
+        let is_far = |disk: &Disk| disk.y > 10_000 * disk.e;
+        assert!(answers[..2].iter().all(|answer| answer.as_ref().is_ok_and(is_far)), "{answers:?}");
+        assert_eq!(answers[2], Err(Refusal::NoDisk));
+    }
+
     #[test]
     fn every_answer_and_every_refusal_is_among_the_cases() {
         let vectors = stored();
         let lists = vectors.iter().filter(|v| v.call == Call::Listing && v.printed.starts_with("disk")).count();
         assert!(lists >= 2_000);
         use Refusal::*;
-        for refusal in [TooLong, BadLine, OutsideBox, TooMany, NoPoint, BadSheet, BadRecord, NoRoom, OddLength, NoGlyph, NotWhole]
-        {
+        for refusal in [
+            TooLong, BadLine, OutsideBox, TooMany, NoPoint, BadSheet, BadRecord, NoRoom, OddLength, NoGlyph, NotWhole, NotInList,
+            NoDisk,
+        ] {
             let line = listing::refused(refusal);
             assert!(vectors.iter().any(|v| v.printed.contains(&line)), "{refusal:?}");
         }

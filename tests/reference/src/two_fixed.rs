@@ -44,7 +44,7 @@ pub fn smallest_through(case: &FixedCase) -> Option<Disk> {
 }
 
 /// (b − a) × (p − a)
-fn cross(a: Point, b: Point, p: Point) -> i128 {
+pub fn cross(a: Point, b: Point, p: Point) -> i128 {
     let ((ax, ay), (bx, by), (px, py)) = (a.wide(), b.wide(), p.wide());
     (bx - ax) * (py - ay) - (by - ay) * (px - ax)
 }

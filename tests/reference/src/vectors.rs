@@ -2,12 +2,13 @@
 //!
 //! `tests/README.md` has the layout.
 
+use crate::chosen::{smallest_disk_through, Chosen};
 use crate::description;
 use crate::drawing::{self, DrawnPoint};
 use crate::engine::{self, flat};
 use crate::figures;
 use crate::geometry::{Disk, Point};
-use crate::inputs::{AppendCase, FixedCase, LoaderCase, PartCase, SheetCase, WriterCase};
+use crate::inputs::{AppendCase, ChosenCase, FixedCase, LoaderCase, PartCase, SheetCase, WriterCase};
 use crate::listing;
 use crate::procedure::{self, Cover};
 use crate::record;
@@ -32,6 +33,8 @@ pub enum Call {
     Loader = b'L' as isize,
     /// The procedure with two points fixed.
     Fixed = b'F' as isize,
+    /// The smallest disk with chosen points on its boundary.
+    Chosen = b'C' as isize,
     /// A drawing program's point put behind others, then the engine on them.
     Append = b'A' as isize,
     /// The sheet opener, then the part it found.
@@ -131,6 +134,22 @@ pub fn fixed(case: &FixedCase) -> Vector {
     Vector { call: Call::Fixed, bytes, printed }
 }
 
+/// How many points are chosen, a byte; two points, of which the second is not used where one is chosen; then the list, two bytes a number,
+/// high byte first: the disk, and the checksum of the list, which is left as it came.
+pub fn chosen(case: &ChosenCase) -> Vector {
+    let (count, a, b) = match case.chosen {
+        Chosen::One(a) => (1, a, case.unused),
+        Chosen::Two(a, b) => (2, a, b),
+    };
+    let numbers = [&flat(&[a, b]), &case.list[..]].concat();
+    let bytes = [count].into_iter().chain(numbers.iter().flat_map(|number| number.to_be_bytes())).collect();
+    let printed = match smallest_disk_through(&case.list, case.chosen) {
+        Ok(Disk { x, y, e, s }) => format!("disk {x} {y} {e} {s}\n"),
+        Err(refusal) => listing::refused(refusal),
+    };
+    Vector { call: Call::Chosen, bytes, printed: printed + &format!("left {}\n", list_checksum(&case.list)) }
+}
+
 /// The kind, 1 for whole numbers and 2 for floats; x and y in eight bytes each, floats by their bits; how many points are there in eight
 /// bytes and the lent list's length in two, high byte first; then the numbers at the front of the list. Its checksum after the call is
 /// printed, and where a point was put into it, what the engine makes of the points there now.
@@ -226,6 +245,17 @@ pub fn writer(case: &WriterCase) -> Vector {
 #[cfg(test)]
 mod tests {
     use super::*;
+
+    #[test]
+    fn chosen_points_stand_before_their_list() {
+        let (a, b) = (Point::new(5, 1), Point::new(-250, 256));
+        let vector = |points| chosen(&ChosenCase { chosen: points, unused: b, list: vec![5, 1, 3] });
+        let numbers = [0, 5, 0, 1, 255, 6, 1, 0, 0, 5, 0, 1, 0, 3];
+        assert_eq!(vector(Chosen::One(a)).bytes, [&[1], &numbers[..]].concat());
+        assert_eq!(vector(Chosen::Two(a, b)).bytes, [&[2], &numbers[..]].concat());
+        let left = list_checksum(&[5, 1, 3]);
+        assert_eq!(vector(Chosen::One(a)).printed, format!("refused 9\nleft {left}\n"));
+    }
 
     #[test]
     fn the_checksum_depends_on_the_order() {

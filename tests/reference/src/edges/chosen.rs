@@ -1,0 +1,185 @@
+//! Chosen points on the boundary (02, item 6): the disk where there is one, and the checks in their order.
+
+use super::{Answer, Edge};
+use crate::chosen::Chosen;
+use crate::engine::flat;
+use crate::geometry::Point;
+use crate::inputs::ChosenCase;
+use crate::letters::points;
+
+/// X Y E S, or the number of the refusal.
+type Choice = Edge<ChosenCase, Answer<[i128; 4]>>;
+
+type Pair = (i16, i16);
+
+pub fn choices() -> Vec<Choice> {
+    let rows = [&DISKS[..], &PLACES, &REFUSALS].concat();
+    let rows = rows.into_iter().flat_map(|(says, rows)| rows.iter().map(move |row| (says, row)));
+    let of_points = rows.map(|(says, (chosen, list, gives))| choice(says, chosen, flat(&points(list)), *gives));
+    of_points.chain(numbers()).collect()
+}
+
+/// One or two chosen points. Behind one stands a point that is in no list.
+fn choice(says: &'static str, chosen: &[Pair], list: Vec<i16>, gives: Answer<[i128; 4]>) -> Choice {
+    let chosen = match points(chosen)[..] {
+        [a] => Chosen::One(a),
+        [a, b] => Chosen::Two(a, b),
+        _ => unreachable!("one or two points are chosen"),
+    };
+    Edge { says, given: ChosenCase { chosen, unused: Point::new(1001, 751), list }, gives }
+}
+
+/// The chosen points, the list, and what is given.
+type Row = (&'static [Pair], &'static [Pair], Answer<[i128; 4]>);
+
+/// Letter G of document 01, letter J, and the square that letter D is.
+const G: &[Pair] = &[(0, 0), (10, 0), (5, 1)];
+const ROW: &[Pair] = &[(0, 0), (2, 0), (4, 0)];
+const SQUARE: &[Pair] = &[(0, 0), (10, 0), (0, 10), (10, 10)];
+
+/// The twelve points at distance 5 from (10, 10).
+#[rustfmt::skip]
+const CIRCLE: &[Pair] = &[
+    (15, 10), (14, 13), (13, 14), (10, 15), (7, 14), (6, 13), (5, 10), (6, 7), (7, 6), (10, 5), (13, 6), (14, 7),
+];
+
+/// Two points far apart across the em box, and between them one half a unit of area beside their row.
+const THIN: &[Pair] = &[(0, -250), (499, 248), (999, 747)];
+
+/// Nearly half of the em box.
+const WIDE: &[Pair] = &[(0, -250), (1000, -247), (1, 750)];
+
+#[rustfmt::skip]
+const DISKS: [(&str, &[Row]); 6] = [
+    ("the smallest disk that holds the list and has the chosen corners on its rim", &[
+        (&[(5, 1)], G, Ok([5, -12, 1, 169])),
+        (&[(0, 0)], G, Ok([5, 0, 1, 25])),
+        (&[(10, 0)], G, Ok([5, 0, 1, 25])),
+        (&[(0, 0), (10, 0)], G, Ok([5, 0, 1, 25])),
+        (&[(0, 0), (5, 1)], G, Ok([5, -12, 1, 169])),
+        (&[(5, 1), (0, 0)], G, Ok([5, -12, 1, 169])),
+        (&[(5, 1)], &[(5, -3), (0, 0), (5, 1), (10, 0)], Ok([5, -12, 1, 169])),
+        (&[(5, 1)], &[(5, 1), (0, 0), (5, 1), (10, 0), (0, 0), (5, 1)], Ok([5, -12, 1, 169])),
+        (&[(0, 0)], &[(10, 0), (5, 6), (0, 0), (5, -6)], Ok([61, 0, 10, 3_721])),
+        (&[(5, 6), (5, -6)], &[(10, 0), (5, 6), (0, 0), (5, -6)], Ok([5, 0, 1, 36])),
+        (&[(0, 0), (10, 0)], &[(10, 0), (5, 6), (0, 0), (5, -4)], Ok([60, 11, 12, 3_721])),
+    ]),
+    ("Choosing one corner twice counts as choosing it once", &[
+        (&[(5, 1), (5, 1)], G, Ok([5, -12, 1, 169])),
+        (&[(0, 0), (0, 0)], G, Ok([5, 0, 1, 25])),
+        (&[(2, 0), (2, 0)], ROW, Err(13)),
+        (&[(7, 7), (7, 7)], ROW, Err(12)),
+        (&[(7, 7), (7, 7)], &[(7, 7)], Ok([7, 7, 1, 0])),
+    ]),
+    ("a corner alone is its own disk, however often the list has it", &[
+        (&[(7, 7)], &[(7, 7)], Ok([7, 7, 1, 0])),
+        (&[(0, -250)], &[(0, -250)], Ok([0, -250, 1, 0])),
+        (&[(1000, 750)], &[(1000, 750), (1000, 750), (1000, 750)], Ok([1000, 750, 1, 0])),
+    ]),
+    ("X, Y and E obey the divisor rule", &[
+        (&[(0, 0)], &[(0, 0), (3, 0)], Ok([3, 0, 2, 9])),
+        (&[(0, 0), (4, 0)], &[(4, 0), (0, 0)], Ok([2, 0, 1, 4])),
+        (&[(4, 0), (0, 0)], &[(4, 0), (0, 0)], Ok([2, 0, 1, 4])),
+        (&[(3, 2)], &[(0, 0), (6, 0), (3, 2)], Ok([12, -5, 4, 169])),
+        (&[(2, 3)], &[(0, 0), (4, 0), (2, 3)], Ok([12, 5, 6, 169])),
+    ]),
+    ("only the same disk equals it: more corners on one rim than settle it", &[
+        (&[(0, 0)], SQUARE, Ok([5, 5, 1, 50])),
+        (&[(0, 0), (10, 10)], SQUARE, Ok([5, 5, 1, 50])),
+        (&[(10, 10), (10, 0)], SQUARE, Ok([5, 5, 1, 50])),
+        (&[(13, 14)], CIRCLE, Ok([10, 10, 1, 25])),
+        (&[(7, 14), (13, 14)], CIRCLE, Ok([10, 10, 1, 25])),
+        (&[(6, 7), (14, 13)], CIRCLE, Ok([10, 10, 1, 25])),
+        (&[(13, 14), (7, 14)], &[(10, 5), (13, 14), (10, 15), (7, 14)], Ok([10, 10, 1, 25])),
+        (&[(0, 0), (10, 0)], &[(0, 0), (10, 0), (5, 5), (5, -5)], Ok([5, 0, 1, 25])),
+    ]),
+    ("such a disk exists for both ends of a row, and for either", &[
+        (&[(0, 0), (4, 0)], ROW, Ok([2, 0, 1, 4])),
+        (&[(4, 0), (0, 0)], ROW, Ok([2, 0, 1, 4])),
+        (&[(0, 0)], ROW, Ok([2, 0, 1, 4])),
+        (&[(4, 0)], ROW, Ok([2, 0, 1, 4])),
+    ]),
+];
+
+#[rustfmt::skip]
+const PLACES: [(&str, &[Row]); 3] = [
+    ("The centre may be outside the em box and S/E² above its limit: on each side of the box", &[
+        (&[(0, 0), (1, 0)], &[(0, 0), (1, 0), (1000, 1)], Ok([1, 999_001, 2, 998_002_998_002])),
+        (&[(1, 0)], &[(0, 0), (1, 0), (1000, 1)], Ok([1, 999_001, 2, 998_002_998_002])),
+        (&[(1, 0), (0, 0)], &[(1000, -1), (0, 0), (1, 0)], Ok([1, -999_001, 2, 998_002_998_002])),
+        (&[(1, 500)], &[(0, 0), (1, 500), (1, 501)], Ok([-250_499, 1_001, 2, 62_750_751_002])),
+        (&[(999, 500)], &[(1000, 0), (999, 500), (999, 501)], Ok([252_499, 1_001, 2, 62_750_751_002])),
+    ]),
+    ("S/E² above its limit: the centre some 351 million units away", &[
+        (&[(499, 248)], THIN, Ok([-496_506_995, 497_504_495, 2, 494_030_416_133_880_050])),
+        (&[(499, 248), (0, -250)], THIN, Ok([-496_506_995, 497_504_495, 2, 494_030_416_133_880_050])),
+        (&[(999, 747), (499, 248)], THIN, Ok([-496_506_995, 497_504_495, 2, 494_030_416_133_880_050])),
+    ]),
+    ("E at most 2,000,000: 1,999,994 is the nearest to it without a common divisor", &[
+        (&[(0, -250)], WIDE, Ok([997_008_997, 499_002_491, 1_999_994, 1_992_029_920_117_928_090])),
+        (&[(1000, -247), (1, 750)], WIDE, Ok([997_008_997, 499_002_491, 1_999_994, 1_992_029_920_117_928_090])),
+        (&[(0, -250), (1000, -250)], &[(0, -250), (1000, -250), (1, 750)], Ok([1_000_000, 499_001, 2_000, 1_998_002_998_001])),
+    ]),
+];
+
+#[rustfmt::skip]
+const REFUSALS: [(&str, &[Row]); 5] = [
+    ("13 exactly if no such disk exists: a chosen corner inside, within an edge or within a row", &[
+        (&[(5, 5)], &[(0, 0), (10, 0), (5, 5), (0, 10), (10, 10)], Err(13)),
+        (&[(1, 1)], &[(1, 1), (0, 0), (10, 0), (0, 10), (10, 10)], Err(13)),
+        (&[(0, 0), (1, 1)], &[(1, 1), (0, 0), (10, 0), (0, 10), (10, 10)], Err(13)),
+        (&[(5, 0)], &[(0, 0), (10, 0), (5, 10), (5, 0)], Err(13)),
+        (&[(0, 0), (5, 0)], &[(0, 0), (10, 0), (5, 10), (5, 0)], Err(13)),
+        (&[(2, 0)], ROW, Err(13)),
+        (&[(2, 0), (4, 0)], ROW, Err(13)),
+        (&[(4, 0), (2, 0)], ROW, Err(13)),
+        (&[(1, 1)], &[(0, 0), (1, 1), (1, 1), (2, 2)], Err(13)),
+    ]),
+    ("13 exactly if no such disk exists: for either corner, but not for both", &[
+        (&[(0, 0), (10, 0)], &[(10, 0), (5, 6), (0, 0), (5, -6)], Err(13)),
+        (&[(0, 0), (10, 0)], &[(10, 0), (5, 6), (0, 0), (5, -5)], Err(13)),
+        (&[(0, 0), (10, 0)], &[(0, 0), (10, 0), (5, 5), (5, -5), (4, 5)], Err(13)),
+    ]),
+    ("12 if a chosen corner, even one outside the em box, isn't in it", &[
+        (&[(7, 7)], ROW, Err(12)),
+        (&[(0, 0), (7, 7)], ROW, Err(12)),
+        (&[(7, 7), (0, 0)], ROW, Err(12)),
+        (&[(1001, 0)], ROW, Err(12)),
+        (&[(-1, 0)], ROW, Err(12)),
+        (&[(0, 751)], ROW, Err(12)),
+        (&[(0, -251)], ROW, Err(12)),
+        (&[(0, 0), (32_767, -32_768)], ROW, Err(12)),
+        (&[(-32_768, 32_767), (0, 0)], ROW, Err(12)),
+    ]),
+    ("12 if a chosen corner isn't in it: not its x beside another's y, nor its two numbers exchanged", &[
+        (&[(3, 9)], &[(3, 5), (9, 9)], Err(12)),
+        (&[(9, 5)], &[(3, 5), (9, 9)], Err(12)),
+        (&[(5, 3)], &[(3, 5), (9, 9)], Err(12)),
+        (&[(5, 9)], &[(3, 5), (9, 9)], Err(12)),
+    ]),
+    ("the engine's own on the list, then 12 .., then 13", &[
+        (&[(7, 7)], &[(0, 0), (1001, 0)], Err(3)),
+        (&[(0, 0)], &[(0, 0), (0, 751)], Err(3)),
+        (&[(1001, 0)], &[(0, 0), (1001, 0)], Err(3)),
+        (&[(2, 0)], &[(0, 0), (2, 0), (4, 0), (0, -251)], Err(3)),
+        (&[(2, 0), (9, 9)], ROW, Err(12)),
+        (&[(9, 9), (2, 0)], ROW, Err(12)),
+    ]),
+];
+
+/// Lists of an odd length, with no point and with too many.
+fn numbers() -> Vec<Choice> {
+    let says = "the engine's own on the list: 9, 5, 4, 3";
+    let missing: &[Pair] = &[(7, 7)];
+    vec![
+        choice(says, missing, vec![0, 0, 5], Err(9)),
+        choice(says, missing, vec![1001], Err(9)),
+        choice(says, &[(0, 0)], vec![0, 0, 5], Err(9)),
+        choice(says, missing, vec![-1; 8_195], Err(9)),
+        choice(says, missing, vec![], Err(5)),
+        choice(says, &[(7, 7), (7, 7)], vec![], Err(5)),
+        choice(says, missing, vec![-1; 8_194], Err(4)),
+        choice(says, &[(1, 1)], vec![1; 8_194], Err(4)),
+        choice(says, &[(1, 1)], vec![1; 8_192], Ok([1, 1, 1, 0])),
+    ]
+}
