@@ -25,6 +25,10 @@ pub enum Refusal {
     NoGlyph,
     // A NaN, an infinity or a float with a fraction in a point's x or y.
     NotWhole,
+    // A chosen point that is not in the list.
+    NotInList,
+    // No disk holds the list with the chosen points on its boundary.
+    NoDisk,
 }
 
 // The number that document 01 or 02 gives the refusal.
@@ -43,5 +47,7 @@ pub fn number(r: Refusal) -> u8
         Refusal::OddLength => 9,
         Refusal::NoGlyph => 10,
         Refusal::NotWhole => 11,
+        Refusal::NotInList => 12,
+        Refusal::NoDisk => 13,
     }
 }

@@ -4,6 +4,7 @@
 --   Square l     == the box is a square, the largest E is twice its area, and the largest S/E² half of it
 --   em-square    : so it is with the em box
 --   in-square    : a point of the box, in the terms of Limits.antt
+--   no-more      : in lowest terms a limit is kept too
 --   weight       : E of the lifted disk is at most the largest E
 --   limits       : WithinLimits l (diskOf P), for every P of at least one point, all in the box
 use mathlib.Core.Path.{_≡_, refl, sym, subst}
@@ -45,7 +46,7 @@ square-high : (a g S E s e : ℤ) → pos 0 <ℤ (g *ℤ g) → S ≡ (g *ℤ g)
 square-high a g S E s e hg hs he h = nonneg-by (a ∷ g ∷ S ∷ E ∷ s ∷ e ∷ []) ((g *ℤ g) *ℤ pos 2) (*-pos hg positive-two)
     (le h ⊞ eq (pos 2) hs ⊞ eq (negℤ ((pos 2 *ℤ a) *ℤ (E +ℤ g *ℤ e))) he) (search poly depth 30) tt
 
-no-more : (n g E : ℤ) (e : ℕ) → pos 0 <ℤ g → E ≡ g *ℤ pos e → E ≤ℤ n → pos e ≤ℤ n
+pub no-more : (n g E : ℤ) (e : ℕ) → pos 0 <ℤ g → E ≡ g *ℤ pos e → E ≤ℤ n → pos e ≤ℤ n
 no-more n g E e hg he h = nonneg (n ∷ g ∷ E ∷ pos e ∷ []) (le h ⊞ lt hg ⊠ nn e ⊞ eq (pos 1) he) (search poly depth 30) tt
 
 -- ---- the box

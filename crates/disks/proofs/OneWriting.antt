@@ -1,12 +1,14 @@
 -- Each disk has a single writing (01, "Disk and rim").
 --
 --   rational d     == a disk of four whole numbers, among the rational disks
+--   rational-fits  : such a disk fits the points that it holds and those that are on its boundary
 --   fits-own       : a smallest disk fits the points whose it is
 --   smallest-same  : two smallest disks of the same points are equal in all four numbers
 use mathlib.Core.Path.{_≡_, ap}
 use mathlib.Core.List.{List, [], _∷_}
 use Prim.Native.Nat.{_*_, _≤_}
 use native.Mathlib.Nat.{mul-le-mul}
+use lib.Dec.{T}
 use lib.IntN.{ℤ, pos, natAbs, _+ℤ_, _*ℤ_}
 use lib.Signed.{_≤ℤ_, _<ℤ_}
 use Rattle.integers.proofs.Ring.{poly, linear, eqn, _&_}
@@ -14,8 +16,8 @@ use Rattle.integers.proofs.Order.{≤-antisym, nonneg, le, sq, _⊠_, ≡-cance
 use Rattle.divisors.proofs.Reduced.{reduced-unique}
 use Rattle.geometry.specs.declared.Point.{Point}
 use Rattle.geometry.specs.declared.Disk.{Disk}
-use Rattle.geometry.specs.Plane.{distance, holds}
-use Rattle.point_lists.specs.Sets.{Same}
+use Rattle.geometry.specs.Plane.{distance, holds, onBoundary}
+use Rattle.point_lists.specs.Sets.{In, Same}
 use Rattle.point_lists.proofs.Sets.{same-sym}
 use Rattle.disks.specs.Smallest.{RationalDisk, Fits, SmallestWith}
 use Rattle.disks.proofs.Base.{positive-not-zero}
@@ -31,12 +33,16 @@ scaled e d s h = nonneg (e ∷ d ∷ s ∷ []) (sq e ⊠ le h) (search poly dept
 scaled-equal : (e d s : ℤ) → d ≡ s → (e *ℤ e) *ℤ d ≡ s *ℤ (e *ℤ e)
 scaled-equal e d s h = linear (e ∷ d ∷ s ∷ []) (eqn (e *ℤ e) h) (search poly depth 30) tt
 
-pub fits-own : {P R Q S : List Point} {d : Disk} → Same Q P → Same S R → (m : SmallestWith P R d) → Fits (rational d (m .proper)) Q S
+pub rational-fits : {P R : List Point} (d : Disk) (proper : 1 ≤ d .e) → ((p : Point) → In p P → T (holds d p)) → ((q : Point) → In q R → onBoundary d q)
+    → Fits (rational d proper) P R
 unfolding holds
-fits-own {d} t u m = record {
-  holds-all = λ p i. scaled (pos (d .e)) (distance d p) (pos (d .s)) (record { le = m .holds-all p (t .to p i) });
-  through-all = λ q i. scaled-equal (pos (d .e)) (distance d q) (pos (d .s)) (m .through-all q (u .to q i));
+rational-fits d proper held on = record {
+  holds-all = λ p i. scaled (pos (d .e)) (distance d p) (pos (d .s)) (record { le = held p i });
+  through-all = λ q i. scaled-equal (pos (d .e)) (distance d q) (pos (d .s)) (on q i);
 }
+
+pub fits-own : {P R Q S : List Point} {d : Disk} → Same Q P → Same S R → (m : SmallestWith P R d) → Fits (rational d (m .proper)) Q S
+fits-own {d} t u m = rational-fits d (m .proper) (λ p i. m .holds-all p (t .to p i)) (λ q i. m .through-all q (u .to q i))
 
 radius-same : (s z e f : ℤ) → pos 0 <ℤ e → s *ℤ (f *ℤ f) ≡ z *ℤ (e *ℤ e) → e ≡ f → s ≡ z
 radius-same s z e f h k l = ≡-cancel (positive-not-zero h)

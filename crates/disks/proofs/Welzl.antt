@@ -2,7 +2,7 @@
 --
 --   mtf-disk, mtf-smallest : with R fixed, at most three points and all different, and some rational disk that fits (P, R), the procedure
 --                            ends on a disk, the smallest for (P, R)
---   feasible-disk, feasible-smallest : the same where some lifted disk is feasible
+--   feasible-disk, feasible-smallest : the same where some lifted disk is feasible; strong, cover-is : it is the lifted run's, strongly minimal
 --   mtf-ends               : from no point fixed, for every list of at least one point, it ends on a disk
 --   smallest               : and that is the smallest
 --   disk-same              : lists with the same points have the same disk
@@ -29,10 +29,10 @@ use Rattle.disks.proofs.StrongSmallest.{lift, lift-feasible, strong-sma
 use Rattle.disks.proofs.OneWriting.{smallest-same}
 
 module _ (R P : List Point) (most : length R ≤ 3) (different : Different R) (some : 1 ≤ length P + length R) (W : Lifted) (f : Feasible P R W) where
-  strong : StronglyMinimal P R (liftedRun R P .disk)
+  pub strong : StronglyMinimal P R (liftedRun R P .disk)
   strong = run-strong R P W most some different f
 
-  cover-is : mtf R P .cover ≡ disk (lowered (liftedRun R P .disk))
+  pub cover-is : mtf R P .cover ≡ disk (lowered (liftedRun R P .disk))
   cover-is = run-agree (3 - length R) R P W f different (omega arith) .cover-is ∙ cover-disk (liftedRun R P .disk) (strong .feasible .proper)
 
   pub feasible-disk : mtf R P .cover ≡ disk (diskIn (mtf R P .cover))

@@ -1,0 +1,3 @@
+pub mod Fitting
+-- of inner contracts
+pub mod Decides
