@@ -1,0 +1,2 @@
+-- Laws; the proofs of the functions are in the folders of their names.
+pub mod Choice
