@@ -5,6 +5,8 @@ ghost use Rattle.description.specs.Description as description;
 ghost use Rattle.drawn_points.specs.Appending as drawn;
 ghost use Rattle.sheet.specs.Sheet.{glyphOf};
 ghost use Rattle.engine.specs.Engine as engine;
+ghost use Rattle.chosen_points.specs.declared.Chosen.the-variants.{Two};
+ghost use Rattle.chosen_points.specs.Chosen.{throughOf};
 ghost use Rattle.radius.specs.Radius.{radiusOf};
 ghost use Rattle.record_writer.specs.Writing as writer;
 ghost use Rattle.record_reader.specs.Reading.{readOf};
@@ -16,6 +18,7 @@ ghost use Rattle.c_load.specs.Answer.{loadAnswer};
 ghost use Rattle.c_append.specs.Kind.{pointOf};
 ghost use Rattle.c_glyph.specs.Answer.{glyphAnswer};
 ghost use Rattle.c_disk.specs.Answer.{diskAnswer};
+ghost use Rattle.c_through.specs.Answer.{throughAnswer};
 ghost use Rattle.c_radius.specs.Answer.{radiusAnswer};
 ghost use Rattle.c_preview.specs.Answer.{previewAnswer};
 ghost use Rattle.c_read.specs.Answer.{recordAnswer};
@@ -26,8 +29,10 @@ use c_load::LoadAnswer;
 use c_preview::PreviewAnswer;
 use c_radius::RadiusAnswer;
 use c_read::RecordAnswer;
+use c_through::ThroughAnswer;
 use c_types::Support;
 use geometry::Disk;
+use geometry::Point;
 
 #[no_mangle]
 pub extern "C" fn volkhidar_load(text: &[u8], list: &mut [i16]) -> LoadAnswer
@@ -58,6 +63,17 @@ pub extern "C" fn volkhidar_smallest_disk(list: &mut [i16]) -> DiskAnswer
     ensures { λ _. ⌜ now (list .exit) ≡ engine.listAfter (now (list .entry)) ⌝ }
 {
     c_disk::smallest_disk(list)
+}
+
+#[no_mangle]
+pub extern "C" fn volkhidar_smallest_disk_through(
+    list: &[i16],
+    first: Point,
+    second: Point,
+) -> ThroughAnswer
+    ensures { λ r. ⌜ r ≡ throughAnswer (throughOf (now (list .entry)) (Two first second)) ⌝ }
+{
+    c_through::smallest_disk_through(list, first, second)
 }
 
 #[no_mangle]

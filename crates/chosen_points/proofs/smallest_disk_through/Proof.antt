@@ -75,8 +75,7 @@ smallest-fit-requires c κs =
     let e = c .before in
     let t = told e in
     let r = rules t in
-    let is = c .boundary-of .ensures in
-    (
+    let is = c .boundary-of .ensures in (
       record {
         some = rw is (fixed-some (picked t));
         different = rw is (fixed-different (picked t));
