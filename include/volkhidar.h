@@ -30,6 +30,8 @@
  *                  9   a point list of odd length
  *                 10   glyph number not below the count
  *                 11   a NaN, an infinity or a float with a fraction in a point's x or y
+ *                 12   a chosen point that is not in the list
+ *                 13   no disk holds the list with the chosen points on its boundary
  *
  * docs/FORMATS.md describes descriptions, sheets and records byte by byte.
  */
@@ -55,8 +57,9 @@ typedef struct {
 } volkhidar_point;
 
 /*
- * Centre (x/e, y/e), squared radius s/e^2. A disk that a call returns has e from 1 to 2,000,000, no common divisor of x, y and e
- * above 1, its centre in the em box and s at most 500,000 e^2; so each disk has one writing.
+ * Centre (x/e, y/e), squared radius s/e^2. A disk that a call returns has e from 1 to 2,000,000 and no common divisor of x, y and e
+ * above 1; so each disk has one writing. Its centre is in the em box and s at most 500,000 e^2, except that a disk of
+ * volkhidar_smallest_disk_through may lie and reach anywhere.
  */
 typedef struct {
     int64_t x, y;
@@ -107,6 +110,11 @@ typedef struct {
 
 typedef struct {
     uint64_t refusal;
+    volkhidar_disk disk;
+} volkhidar_through_answer;
+
+typedef struct {
+    uint64_t refusal;
     uint64_t radius;
 } volkhidar_radius_answer;
 
@@ -150,6 +158,16 @@ volkhidar_glyph_answer volkhidar_glyph(const uint8_t *sheet, size_t sheet_length
  * Refusals, in this order: 9 for an odd length, 5, 4, 3.
  */
 volkhidar_disk_answer volkhidar_smallest_disk(int16_t *list, size_t list_length);
+
+/*
+ * The smallest disk that holds the points of `list`, x and y by turns, and has the chosen points `first` and `second` on its boundary:
+ * smallest of all disks with a fractional centre and squared radius that do, and no other is as small. One point that is chosen alone is
+ * passed twice. The list is only read. Only the disk is returned: its centre may be outside the em box and s above 500,000 e^2, and it
+ * then has no whole radius, preview or record (7).
+ * Refusals, in this order: 9 for an odd length, 5, 4, 3; 12 for a chosen point that is not in the list, one outside the em box too; 13
+ * exactly where there is no such disk.
+ */
+volkhidar_through_answer volkhidar_smallest_disk_through(const int16_t *list, size_t list_length, volkhidar_point first, volkhidar_point second);
 
 /*
  * The radius to cut with, a whole number: the least R with R^2 e^2 greater than s. The cut, the circle of radius R about the disk's
