@@ -5,6 +5,7 @@ pub mod Demand3
 pub mod FromFixed
 pub mod TextLeads
 pub mod InnerLevel
+pub mod ChosenPoints
 pub mod Values
 pub mod Whole
 pub mod DrawnPoints

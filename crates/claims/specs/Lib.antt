@@ -3,6 +3,7 @@ pub mod Demand2
 pub mod Demand3
 pub mod FromFixed
 pub mod InnerLevel
+pub mod ChosenPoints
 pub mod Values
 pub mod Whole
 pub mod DrawnPoints

@@ -1,6 +1,7 @@
 -- Whether some disk holds P with R on its boundary: the disk of the procedure tells. R has one to three points, none twice.
 --
 --   rational-by        : a disk that passes the test `fits`, among the rational disks
+--   some-passes        : where some disk fits, the procedure's passes the test
 --   smallest-given     : the smallest disk is the one of the definition
 --   none-refused       : where no disk fits, the definition refuses
 --   given-smallest, refused-none : and only then
@@ -81,8 +82,11 @@ module _ (R P : List Point) (most : length R ≤ 3) (some : 1 ≤ length R) (dif
     smallest-here : SmallestWith P R (diskIn c)
     smallest-here = mtf-smallest R P most different (omega arith) k f
 
+    pub some-passes : fits c P R ≡ true
+    some-passes = ap (λ (x : Cover). fits x P R) (mtf-disk R P most different (omega arith) k f) ∙ smallest-fits smallest-here
+
     gives : fittingDisk P R ≡ given (diskIn c)
-    gives = by-test true (ap (λ (x : Cover). fits x P R) (mtf-disk R P most different (omega arith) k f) ∙ smallest-fits smallest-here)
+    gives = by-test true some-passes
 
     pub weight-most : ((p : Point) → In p R → T (inEmBox p)) → ((p : Point) → In p P → T (inEmBox p)) → diskIn c .e ≤ em .scale
     weight-most r b =

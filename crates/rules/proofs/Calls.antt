@@ -1,6 +1,6 @@
 -- Each public call goes by its row of rules (specs/Rules.antt).
 --
---   loader, sheet, engine, radius, preview, writer, reader, append : the calls
+--   loader, sheet, engine, radius, preview, writer, reader, append, through : the calls
 use mathlib.Core.Path.{_≡_, refl, sym, ap, ap₂, _∙_, subst}
 use mathlib.Core.Bool.{Bool, true, false, not, true≢false}
 use mathlib.Core.List.{List, [], _∷_}
@@ -22,6 +22,12 @@ use Rattle.drawn_points.specs.Appending.{placeOf, takenOf, appendOf}
 use Rattle.sheet.specs.Sheet.{count, directoryEnd, pair, pairs, follow, glyphOf}
 use Rattle.engine.specs.Engine.{enclosure, encloseOf}
 use Rattle.engine.proofs.Checks.{even-length}
+use Rattle.point_lists.specs.Sets.{has, allOf}
+use Rattle.disks.specs.Procedure.{mtf}
+use Rattle.fitting.specs.Fitting.{fits, fittingDisk}
+use Rattle.chosen_points.specs.declared.Chosen.{Chosen}
+use Rattle.chosen_points.specs.Chosen.{chosen, fixed, throughOf}
+use Rattle.chosen_points.proofs.Fitting.{all-there, there-all, some-fits, fits-some}
 use Rattle.validity.specs.Valid.{valid}
 use Rattle.radius.specs.Radius.{wholeRadius, radiusOf}
 use Rattle.record_writer.specs.Layout.{recordLength}
@@ -30,7 +36,7 @@ use Rattle.record_reader.specs.Reading.{diskIn, pointsIn, countIn, readOf}
 use Rattle.record_reader.proofs.RoundTrip.{read-written, accepted, written-again}
 use Rattle.preview.specs.Preview.{floats, previewOf}
 use Rattle.rules.specs.Row.{_unless_, GoesBy}
-use Rattle.rules.specs.Rules.{Bytes, IsRecord, Names, loaderRow, sheetRow, engineRow, writerRow, readerRow, diskRow, appendRow}
+use Rattle.rules.specs.Rules.{Bytes, IsRecord, Names, loaderRow, sheetRow, engineRow, writerRow, readerRow, diskRow, appendRow, throughRow}
 use Rattle.rules.proofs.RowLaws.{row-end, row-step, row-then, row-through}
 use Rattle.geometry.proofs.EmBox.{inside, inside-test, all-inside, inside-all}
 use Rattle.rules.proofs.Recordables.{valid-recordable, recordable-valid}
@@ -98,6 +104,17 @@ engine l =
 
     few : {n m : ℕ} → n ≡ 2 * m → n / 2 ≤ 4096 → m ≤ 4096
     few e h = omega arith
+
+-- the engine's checks, the chosen points in the list, and a disk that fits
+pub through : (l : List ℤ) (c : Chosen) → GoesBy (throughRow l c) (throughOf l c)
+unfolding throughOf fittingDisk
+through l c =
+    let P = points l in
+    let fit = fits (mtf (fixed c) P .cover) P (fixed c) in
+    row-then (engineRow l) _ _ (encloseOf l) (engine l) (λ e h.
+    row-step (not (allOf (has P) (chosen c))) 12 (λ t k. fails t (all-there l c k)) (λ t. there-all l c (not-false (allOf (has P) (chosen c)) t)) (λ there.
+    row-step (not fit) 13 (λ t k. fails t (some-fits l c (k .0) (k .1))) (λ t. fits-some l c (not-false fit t)) (λ some.
+    row-end _)))
 
 -- one check of a disk and its points, and then a value
 checked : {A : Type 0} (d : Disk) (ps : List Point) (a : A) → GoesBy (diskRow d ps) (refuseIf (not (valid d ps)) 7 (given a))

@@ -10,7 +10,7 @@
 --   Bytes bs           == bs is a list of bytes
 --   IsRecord bs        == bs is the record of such a disk and points
 --   Names p c          == the drawing program's point p is c: its whole numbers are c's, or its floats stand for them exactly
---   loaderRow, sheetRow, engineRow, writerRow, readerRow, diskRow, appendRow == the rows; radius and preview have diskRow
+--   loaderRow, sheetRow, engineRow, writerRow, readerRow, diskRow, appendRow, throughRow == the rows; radius and preview have diskRow
 --
 -- `Inside em p`: x is from 0 to 1000 and y from −250 to 750 (geometry/specs/EmBox.antt, which has every limit of points and disks).
 use mathlib.Core.Path.{_≡_}
@@ -25,6 +25,9 @@ use Rattle.geometry.specs.EmBox.{em, Inside, WithinLimits}
 use Rattle.geometry.specs.Points.{points}
 use Rattle.point_lists.specs.Sets.{In}
 use Rattle.point_lists.specs.Rising.{Rising}
+use Rattle.disks.specs.Smallest.{RationalDisk, Fits}
+use Rattle.chosen_points.specs.declared.Chosen.{Chosen}
+use Rattle.chosen_points.specs.Chosen.{chosen}
 use Rattle.lines.specs.Line.{Line, blank, point, fault}
 use Rattle.description.specs.Description.{linesRead, pointsOn, named}
 use Rattle.whole_floats.specs.Whole.{StandsFor}
@@ -108,6 +111,16 @@ engineRow list =
     ∷ 4 unless (length (points list) ≤ 4096)
     ∷ 3 unless ((p : Point) → In p (points list) → Inside em p)
     ∷ []
+
+-- ---- chosen points on the boundary (02, item 6)
+
+-- "the engine's own on the list, then 12 if a chosen corner, even one outside the em box, isn't in it, then 13 exactly if no such disk exists"
+abbrev pub throughRow : List ℤ → Chosen → List Rule
+throughRow list c =
+    engineRow list
+    ++ (12 unless ((p : Point) → In p (chosen c) → In p (points list))
+    ∷ 13 unless ((k : RationalDisk) × Fits k (points list) (chosen c))
+    ∷ [])
 
 -- ---- points from a drawing program (02, item 2)
 
