@@ -1,4 +1,5 @@
-// Stored cases (tests/README.md has their layout): the next case of the input, and the numbers that its bytes stand for.
+// Stored cases (tests/README.md has their layout): the next case of the input, and the numbers and points that its bytes stand for.
+use geometry::Point;
 ghost use Prim.Native.Nat.{_≤_};
 
 // The call that a case is for, a letter, and how many bytes are given.
@@ -104,6 +105,15 @@ pub fn number_at(bytes: &[u8], at: usize) -> i16 {
         return 0;
     }
     twos_complement::of_bits(big_endian::get_at(bytes, at, 2), 2) as i16
+}
+
+// The point of two signed numbers of 2 bytes each.
+pub fn point_at(bytes: &[u8], at: usize) -> Point
+    requires { ⌜ at ≤ 100 ⌝ }
+{
+    let x = number_at(bytes, at);
+    let y = number_at(bytes, at + 2);
+    Point { x, y }
 }
 
 // Fills the front of the list with signed numbers of 2 bytes each, as far as there are bytes.

@@ -3,3 +3,4 @@ pub mod Descriptions
 pub mod Drawings
 pub mod Records
 pub mod InnerLevel
+pub mod ChosenPoints

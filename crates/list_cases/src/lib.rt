@@ -51,15 +51,6 @@ pub fn run_engine(bytes: &[u8]) {
     }
 }
 
-// The point of two signed numbers of 2 bytes each.
-pub fn get_point(bytes: &[u8], at: usize) -> Point
-    requires { ⌜ at ≤ 100 ⌝ }
-{
-    let x = cases::number_at(bytes, at);
-    let y = cases::number_at(bytes, at + 2);
-    Point { x, y }
-}
-
 // The disk that a run ends on; three points in a row have no circle.
 fn print_relative(d: RelativeDisk)
     requires { ⌜ Small d ⌝ }
@@ -94,8 +85,8 @@ fn solve_fixed(list: &mut [i16], a: Point, b: Point)
 // F: two points, four bytes each, then a list of points; through the procedure with the two fixed.
 pub fn run_fixed(bytes: &[u8]) {
     if 8 <= bytes.len() {
-        let a = get_point(bytes, 0);
-        let b = get_point(bytes, 4);
+        let a = cases::point_at(bytes, 0);
+        let b = cases::point_at(bytes, 4);
         let n = (bytes.len() - 8) / 4;
         let mut list = [0i16; 8192];
         cases::fill_list(&bytes[8..], &mut list);

@@ -75,9 +75,9 @@ fn run_reader(bytes: &[u8]) {
 
 // The points stand from byte 34 on.
 fn get_support(bytes: &[u8], count: u8) -> SupportSet {
-    let a = list_cases::get_point(bytes, 34);
-    let b = list_cases::get_point(bytes, 38);
-    let c = list_cases::get_point(bytes, 42);
+    let a = cases::point_at(bytes, 34);
+    let b = cases::point_at(bytes, 38);
+    let c = cases::point_at(bytes, 42);
     if count == 1 {
         return SupportSet::One(a);
     }
@@ -122,6 +122,7 @@ fn run_case(call: u8, bytes: &[u8]) {
         b'E' => list_cases::run_engine(bytes),
         b'L' => list_cases::run_loader(bytes),
         b'F' => list_cases::run_fixed(bytes),
+        b'C' => chosen_cases::run_chosen(bytes),
         b'A' => list_cases::run_append(bytes),
         b'S' => run_sheet(bytes),
         b'P' => run_part(bytes),

@@ -6,11 +6,11 @@ use borrow.Author.Needs.{needs}
 use Rattle.list_cases.proofs.run_fixed.Statement.{statement}
 use Rattle.list_cases.proofs.run_fixed.Tie as tie
 
-get-point-requires : tie.Need-get-point-requires
-get-point-requires c κs = search needs
+point-at-requires : tie.Need-point-at-requires
+point-at-requires c κs = search needs
 
-get-point-requires-2 : tie.Need-get-point-requires-2
-get-point-requires-2 c κs = search needs
+point-at-requires-2 : tie.Need-point-at-requires-2
+point-at-requires-2 c κs = search needs
 
 sub-n : tie.Need-sub-n
 sub-n c = search needs
@@ -55,8 +55,8 @@ pub run-fixed-spec : {M : Type 1} → statement M
 run-fixed-spec =
     tie.close
     (tie.spec
-    get-point-requires
-    get-point-requires-2
+    point-at-requires
+    point-at-requires-2
     sub-n
     sub-fill-list
     part-fill-list-start
