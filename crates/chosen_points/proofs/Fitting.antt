@@ -3,7 +3,7 @@
 --   all-there, there-all  : the chosen points are in the list exactly where the test says so
 --   some-fits, fits-some  : some disk holds the list with the chosen points on its boundary exactly where the procedure's disk passes the test
 --   fits-same, smallest-same-set : such a disk, and the smallest, for the same points on the boundary
-use mathlib.Core.Path.{_≡_, sym, _∙_}
+use mathlib.Core.Path.{_≡_}
 use mathlib.Core.Bool.{true}
 use mathlib.Core.List.{List}
 use lib.IntN.{ℤ}

@@ -9,7 +9,7 @@ ghost use mathlib.Core.Path.{_≡_};
 ghost use Rattle.geometry.specs.Points.{points};
 ghost use Rattle.point_lists.specs.Sets.{has, allOf};
 ghost use Rattle.fixed_points.specs.Boundary.{members};
-ghost use Rattle.chosen_points.specs.Chosen.{chosen as chosenPoints, fixed, outcome, throughOf};
+ghost use Rattle.chosen_points.specs.Chosen.{chosen, fixed, outcome, throughOf};
 
 // 02: the chosen corners.
 pub enum Chosen {
@@ -36,10 +36,10 @@ fn has_point(list: &[i16], p: Point) -> bool
 }
 
 // Whether the chosen points are all in the list.
-fn has_chosen(list: &[i16], chosen: Chosen) -> bool
-    ensures { λ r. ⌜ r ≡ allOf (has (points (now (list .entry)))) (chosenPoints chosen) ⌝ }
+fn has_chosen(list: &[i16], choice: Chosen) -> bool
+    ensures { λ r. ⌜ r ≡ allOf (has (points (now (list .entry)))) (chosen choice) ⌝ }
 {
-    match chosen {
+    match choice {
         Chosen::One(p) => has_point(list, p),
         Chosen::Two(p, q) => {
             if has_point(list, p) {
@@ -51,10 +51,10 @@ fn has_chosen(list: &[i16], chosen: Chosen) -> bool
 }
 
 // The set to fix on the boundary: a point that is chosen twice is chosen once.
-fn boundary_of(chosen: Chosen) -> Boundary
-    ensures { λ r. ⌜ members r ≡ fixed chosen ⌝ }
+fn boundary_of(choice: Chosen) -> Boundary
+    ensures { λ r. ⌜ members r ≡ fixed choice ⌝ }
 {
-    match chosen {
+    match choice {
         Chosen::One(p) => Boundary::One(p),
         Chosen::Two(p, q) => {
             if point_lists::is_same(p, q) {
@@ -66,16 +66,16 @@ fn boundary_of(chosen: Chosen) -> Boundary
 }
 
 // The smallest disk that holds the list's points and has the chosen ones on its boundary. The list is only read.
-pub fn smallest_disk_through(list: &[i16], chosen: Chosen) -> Through
-    ensures { λ r. ⌜ outcome r ≡ throughOf (now (list .entry)) chosen ⌝ }
+pub fn smallest_disk_through(list: &[i16], choice: Chosen) -> Through
+    ensures { λ r. ⌜ outcome r ≡ throughOf (now (list .entry)) choice ⌝ }
 {
     match engine::check(list) {
         Checked::Refused(r) => Through::Refused(r),
         Checked::Passed => {
-            if !has_chosen(list, chosen) {
+            if !has_chosen(list, choice) {
                 return Through::Refused(Refusal::NotInList);
             }
-            match fitting::smallest_fit(list, boundary_of(chosen)) {
+            match fitting::smallest_fit(list, boundary_of(choice)) {
                 Fit::Smallest(d) => Through::Found(lowest_disks::written(
                     d.e,
                     d.qx,

@@ -9,7 +9,7 @@
 -- and its radius beyond that.
 use mathlib.Core.Path.{_≡_}
 use mathlib.Core.Logic.{_↔_}
-use mathlib.Core.List.{List}
+use mathlib.Core.List.{List, []}
 use Prim.Native.Nat.{_≤_}
 use lib.IntN.{ℤ}
 use Rattle.answers.specs.Outcome.{given, refused}
@@ -17,7 +17,7 @@ use Rattle.divisors.specs.Divisor.{Reduced}
 use Rattle.geometry.specs.declared.Point.{Point}
 use Rattle.geometry.specs.declared.Disk.{Disk}
 use Rattle.geometry.specs.Points.{points}
-use Rattle.point_lists.specs.Sets.{In, Same}
+use Rattle.point_lists.specs.Sets.{In}
 use Rattle.disks.specs.Smallest.{RationalDisk, Fits, SmallestWith}
 use Rattle.chosen_points.specs.declared.Chosen.{Chosen}
 use Rattle.chosen_points.specs.declared.Chosen.the-variants.{One, Two}

@@ -10,7 +10,7 @@
 use mathlib.Core.Path.{_≡_, refl, sym, _∙_, ap, subst}
 use mathlib.Core.Logic.{_⊎_, inl, inr}
 use mathlib.Core.Bool.{Bool, true, false}
-use mathlib.Core.List.{List, [], _∷_, _++_, append-assoc, List·Permᴰ, Permᴰ·refl, Permᴰ·symm, List·Permᴰ·trans, Permᴰ·append-right}
+use mathlib.Core.List.{List, [], _∷_, _++_, List·Permᴰ, Permᴰ·refl, Permᴰ·symm, List·Permᴰ·trans, Permᴰ·append-right}
 use mathlib.Core.List.{Memᴰ·append-left, List·Memᴰ·append-cases}
 use Prim.Native.Nat.{ℕ, zero, suc, _+_, _*_, _≤_, _<_}
 use native.Mathlib.Numerals.{add-one}

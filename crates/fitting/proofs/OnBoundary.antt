@@ -20,8 +20,8 @@ use Rattle.point_lists.proofs.Sets.{none-of}
 use Rattle.disks.specs.Procedure.{Cover, disk, outside, circle, boundaryDisk, State, tested, step, through, start, run, diskIn}
 use Rattle.disks.proofs.Lifted.{Lifted}
 use Rattle.disks.proofs.Minimal.{Feasible}
-use Rattle.disks.proofs.Base.{pointForm, pairForm, point-strong, pair-strong, positive-not-zero}
-use Rattle.disks.proofs.Triple.{turn, gx, gy, tripleForm, triple-through}
+use Rattle.disks.proofs.Base.{point-strong, pair-strong, positive-not-zero}
+use Rattle.disks.proofs.Triple.{turn, gx, gy, triple-through}
 use Rattle.disks.proofs.LowestTerms.{lowered, lowered-written}
 use Rattle.disks.proofs.StrongSmallest.{written-on}
 use Rattle.disks.proofs.Bridge.{point-lowered, diameter-lowered, circle-lowered}

@@ -4,7 +4,6 @@
 // So Welzl's procedure is run on few points, those that were found outside, which stand at the front of the list.
 use fixed_points::Boundary;
 use relative_disks::RelativeDisk;
-ghost use mathlib.Core.Path.{_≡_};
 ghost use Prim.Native.Nat.{_*_, _/_, _≤_};
 ghost use lib.ListN.{length};
 ghost use Rattle.geometry.specs.Points.{points, firstPoints};

@@ -5,9 +5,8 @@
 --   each-in                       : points that pass the test are in the list
 --   writings-agree                : the writings
 use mathlib.Core.Path.{_≡_, refl, sym, _∙_, subst}
-use mathlib.Core.Logic.{_⊎_, inl, inr}
-use mathlib.Core.Bool.{Bool, true, false, _&&_, _||_, true≢false}
-use mathlib.Core.List.{List, [], _∷_, List·Memᴰ·head, List·Memᴰ·tail, List·Memᴰ·cases-cons, List·Memᴰ·not-nil}
+use mathlib.Core.Bool.{true}
+use mathlib.Core.List.{List}
 use Prim.Native.Nat.{ℕ, _≤_}
 use Prim.Native.String.{String}
 use native.Mathlib.Omega.{arith}
@@ -16,7 +15,6 @@ use lib.Dec.{leb}
 use lib.IntN.{pos}
 use lib.ListN.{length, length-replicate}
 use Rattle.answers.specs.Outcome.{Outcome, given}
-use Rattle.integers.proofs.Tests.{first, rest}
 use Rattle.geometry.specs.declared.Point.{Point}
 use Rattle.geometry.specs.EmBox.{inBox}
 use Rattle.lines.specs.Line.{joinPiece, pieces, nonEmpty, lineOfWords}

@@ -14,7 +14,7 @@ use Rattle.geometry.specs.Points.{flat}
 use Rattle.chosen_points.specs.declared.Chosen.{Chosen}
 use Rattle.chosen_points.specs.declared.Chosen.the-variants.{One, Two}
 use Rattle.chosen_points.specs.Chosen.{throughOf}
-use Rattle.letters_to_try.specs.Letters.{at, below, disk}
+use Rattle.letters_to_try.specs.Letters.{at, disk}
 
 pub record Choice : Type 0 where
   pub list : List Point

@@ -10,7 +10,7 @@
 --   outcome r          == document 01's number and values of each answer
 --
 -- That this is the disk and the points whose record the bytes are, and of no other bytes, is said by proofs/RoundTrip.
-use mathlib.Core.Bool.{Bool, true, false, not, _&&_}
+use mathlib.Core.Bool.{Bool, true, false, not}
 use mathlib.Core.List.{List, [], _∷_}
 use Prim.Native.Nat.{ℕ, _+_}
 use lib.Dec.{eqb}

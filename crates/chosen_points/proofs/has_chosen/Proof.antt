@@ -23,14 +23,14 @@ module _ (f : Point → Bool) (p : Point) where
   unfolding allOf
   first-fails q h = stop (allOf f (q ∷ [])) h
 
-enum-known-chosen : tie.Need-enum-known-chosen
-enum-known-chosen c = search needs
+enum-known-choice : tie.Need-enum-known-choice
+enum-known-choice c = search needs
 
 has-point-requires : tie.Need-has-point-requires
 has-point-requires c κs = search needs
 
-enum-known-chosen-2 : tie.Need-enum-known-chosen-2
-enum-known-chosen-2 c = search needs
+enum-known-choice-2 : tie.Need-enum-known-choice-2
+enum-known-choice-2 c = search needs
 
 has-point-requires-2 : tie.Need-has-point-requires-2
 has-point-requires-2 c κs = search needs
@@ -40,19 +40,19 @@ has-point-requires-3 c κs = search needs
 
 returns : tie.Need-returns
 returns c =
-    let v = c .before .before .before .before .chosen2 .given in
+    let v = c .before .before .before .before .choice2 .given in
     let l = c .before .before .before .before .before .before .args .list .now in
     rw (v .1) (c .has-point3 .ensures ∙ both-pass (has (points l)) (v .0 .0) (v .0 .1 .0) (sym (c .before .before .has-point2 .ensures) ∙ c .before .if1 .taken))
 
 returns-2 : tie.Need-returns-2
 returns-2 c =
-    let v = c .before .before .chosen .given in
+    let v = c .before .before .choice .given in
     let l = c .before .before .before .before .args .list .now in
     rw (v .1) (c .has-point .ensures ∙ one-passes (has (points l)) (v .0 .0))
 
 returns-3 : tie.Need-returns-3
 returns-3 c =
-    let v = c .before .before .before .chosen2 .given in
+    let v = c .before .before .before .choice2 .given in
     let l = c .before .before .before .before .before .args .list .now in
     rw (v .1) (first-fails (has (points l)) (v .0 .0) (v .0 .1 .0) (sym (c .before .has-point2 .ensures) ∙ c .if1 .left))
 
@@ -60,9 +60,9 @@ pub has-chosen-spec : {M : Type 1} → statement M
 has-chosen-spec =
     tie.close
     (tie.spec
-    enum-known-chosen
+    enum-known-choice
     has-point-requires
-    enum-known-chosen-2
+    enum-known-choice-2
     has-point-requires-2
     has-point-requires-3
     returns

@@ -9,18 +9,16 @@ use lib.IntN.{ℤ}
 use mir.Syntax.{w64}
 use Rattle.integers.proofs.Bounds.{leaf-back}
 use Rattle.answers.specs.Outcome.{given, refused, numberOf}
-use Rattle.geometry.specs.declared.Point.{Point}
 use Rattle.geometry.specs.EmBox.{em}
 use Rattle.geometry.specs.Points.{points}
 use Rattle.point_lists.specs.Sets.{has, allOf}
 use Rattle.relative_disks.specs.Relative.{largestCoordinate, largestOffset}
-use Rattle.fixed_points.specs.Boundary.{members}
 use Rattle.engine.specs.Engine.{enclosure, encloseOf}
 use Rattle.engine.specs.Checks.{Checks}
 use Rattle.engine.proofs.Accepted.{Accepted, accepted-list}
 use Rattle.engine.proofs.Checks.{even-length, some-length}
 use Rattle.fitting.specs.Fitting.{fittingDisk}
-use Rattle.fitting.specs.Decides.{Fixes, Found, NoneFits, Decides}
+use Rattle.fitting.specs.Decides.{Found, Decides}
 use Rattle.fitting.proofs.Decided.{smallest-given, none-refused}
 use Rattle.chosen_points.specs.declared.Chosen.{Chosen}
 use Rattle.chosen_points.specs.Chosen.{chosen, fixed, throughOf}
@@ -34,7 +32,7 @@ module _ (c : tie.After-enum-told) where
   l = c .before .before .before .args .list .now
 
   abbrev picked : Chosen
-  picked = c .before .before .before .args .chosen
+  picked = c .before .before .before .args .choice
 
   passed : encloseOf l ≡ given (enclosure (points l))
   passed = subst (Checks l) (c .enum-told .given .1) (c .before .before .check .ensures)
@@ -128,7 +126,7 @@ returns-2 c =
     let s = c .before .before .before .before in
     let a = s .args .list .now in
     let e : encloseOf a ≡ refused (numberOf (c .before .r .given .0 .0)) = subst (Checks a) (c .before .r .given .1) (c .before .before .before .check .ensures) in
-    sym (through-refused a (s .args .chosen) e)
+    sym (through-refused a (s .args .choice) e)
 
 returns-3 : tie.Need-returns-3
 returns-3 c =

@@ -15,19 +15,19 @@ use Rattle.integers.proofs.Order.{nonneg, positive, le, lt}
 use Rattle.integers.proofs.Ring.{poly}
 use Rattle.geometry.specs.EmBox.{em}
 use Rattle.geometry.specs.declared.Point.{Point}
-use Rattle.geometry.specs.Points.{points, pointAt, firstPoints}
+use Rattle.geometry.specs.Points.{pointAt, firstPoints}
 use Rattle.geometry.proofs.PointLists.{pointAt-firstPoints}
 use Rattle.point_lists.specs.Sets.{In}
 use Rattle.disks.proofs.Lists.{perm-in}
 use Rattle.disks.specs.Procedure.{mtf}
 use Rattle.relative_disks.specs.declared.RelativeDisk.{RelativeDisk}
-use Rattle.relative_disks.specs.Relative.{isOutside, Keeps}
+use Rattle.relative_disks.specs.Relative.{isOutside}
 use Rattle.fixed_points.specs.declared.Boundary.{Boundary}
-use Rattle.fixed_points.specs.Boundary.{members, Boxed}
+use Rattle.fixed_points.specs.Boundary.{members}
 use Rattle.inner_level.specs.Ran.{Given, Ran}
 use Rattle.inner_level.proofs.RunLaws.{run-permuted}
-use Rattle.inner_level.proofs.RanLaws.{ran-left, ran-length}
-use Rattle.fitting.specs.Decides.{Fixes, Found, NoneFits, Permuted}
+use Rattle.inner_level.proofs.RanLaws.{ran-left}
+use Rattle.fitting.specs.Decides.{Found, NoneFits, Permuted}
 use Rattle.fitting.proofs.FrontDisks.{members-most, flat-none, outside-none, held-found}
 use Rattle.fitting.proofs.Fronts.{front-run, permuted-boxed, each-first}
 use Rattle.fitting.proofs.front_disk.Statement.{statement}

@@ -1,9 +1,9 @@
 -- `fitting::search` meets its contract. The loop's invariant: the list has the points that came, and k and `from` are places in it. With all
 -- points in front none is outside, so that k does not pass n.
-use mathlib.Core.Path.{_≡_, refl, sym, ap, subst, _∙_}
+use mathlib.Core.Path.{_≡_, sym, ap, subst, _∙_}
 use mathlib.Core.Bool.{true, false, true≢false}
 use mathlib.Core.List.{List, Permᴰ·symm}
-use Prim.Native.Nat.{ℕ, _+_, _-_, _*_, _/_, _≤_, _<_}
+use Prim.Native.Nat.{ℕ, _-_, _*_, _/_, _≤_, _<_}
 use native.Mathlib.Nat.{le-antisymm}
 use native.Mathlib.Omega.{arith}
 use borrow.Author.Needs.{needs}
@@ -17,11 +17,10 @@ use Rattle.point_lists.specs.Sets.{In}
 use Rattle.disks.proofs.Lists.{perm-in}
 use Rattle.relative_disks.specs.declared.RelativeDisk.{RelativeDisk}
 use Rattle.relative_disks.specs.Relative.{isOutside}
-use Rattle.fixed_points.specs.declared.Boundary.{Boundary}
 use Rattle.fixed_points.specs.Boundary.{members, Boxed}
 use Rattle.inner_level.specs.Ran.{Given}
 use Rattle.inner_level.proofs.RanLaws.{all-boxed}
-use Rattle.fitting.specs.Decides.{Found, NoneFits, Decides, Permuted, OutsideAt}
+use Rattle.fitting.specs.Decides.{Found, Decides, Permuted, OutsideAt}
 use Rattle.fitting.proofs.FrontDisks.{found-held, found-more, none-more}
 use Rattle.fitting.proofs.Fronts.{permuted-refl, permuted-trans, to-front, permuted-boxed, first-in, each-first, by-place}
 use Rattle.fitting.proofs.search.Statement.{statement}
