@@ -1,6 +1,6 @@
 /*
  * The way of a letter through the library: a description is read, its smallest disk worked out, and a record written and read back.
- * Then the same letter from a drawing program's own values.
+ * Then the same letter from a drawing program's own values, and another letter's disk turned against a stop.
  *
  *   bindings/c/run      builds and runs it on letter F of the papers
  *   bindings/c/run -    reads a description from standard input
@@ -17,9 +17,13 @@ static int refused(uint64_t refusal) {
     return 1;
 }
 
+static void print_disk(const volkhidar_disk *d) {
+    printf("disk %" PRId64 " %" PRId64 " %" PRIu64 " %" PRIu64 "\n", d->x, d->y, d->e, d->s);
+}
+
 static void print_answer(const volkhidar_disk_answer *answer) {
-    const volkhidar_disk *d = &answer->disk;
-    printf("disk %" PRId64 " %" PRId64 " %" PRIu64 " %" PRIu64 "\nrim", d->x, d->y, d->e, d->s);
+    print_disk(&answer->disk);
+    printf("rim");
     for (uint64_t i = 0; i < answer->support.size; i++) {
         printf(" %d %d", answer->support.points[i].x, answer->support.points[i].y);
     }
@@ -75,11 +79,21 @@ static int work_out_drawing(void) {
     return 0;
 }
 
+/* Letter G of the papers with its middle point at the stop: the disk has it on the boundary, and not inside as the smallest one. */
+static int work_out_against_stop(void) {
+    const int16_t list[] = {0, 0, 10, 0, 5, 1};
+    volkhidar_point stop = {.x = 5, .y = 1};
+    volkhidar_through_answer answer = volkhidar_smallest_disk_through(list, sizeof list / sizeof list[0], stop, stop);
+    if (answer.refusal) return refused(answer.refusal);
+    print_disk(&answer.disk);
+    return 0;
+}
+
 int main(int argc, char **argv) {
     static uint8_t text[VOLKHIDAR_MOST_BYTES + 1];
     (void)argv;
     if (argc > 1) {
         return work_out(text, fread(text, 1, sizeof text, stdin));
     }
-    return work_out((const uint8_t *)letter_f, sizeof letter_f - 1) || work_out_drawing();
+    return work_out((const uint8_t *)letter_f, sizeof letter_f - 1) || work_out_drawing() || work_out_against_stop();
 }

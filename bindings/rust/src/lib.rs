@@ -30,7 +30,7 @@ mod shapes;
 
 pub use raw::{Disk, Point};
 pub use refusal::Refusal;
-pub use shapes::{DrawnPoint, Enclosed, Preview, SupportSet};
+pub use shapes::{Chosen, DrawnPoint, Enclosed, Preview, SupportSet};
 
 use refusal::checked;
 use std::ops::Range;
@@ -139,6 +139,34 @@ pub fn smallest_disk(list: &mut [i16]) -> Result<Enclosed, Refusal> {
     let answer = unsafe { raw::volkhidar_smallest_disk(list.as_mut_ptr(), list.len()) };
     checked(answer.refusal)?;
     Ok(Enclosed { disk: answer.disk, support: answer.support.into(), tests: answer.tests })
+}
+
+/// The smallest disk that holds the points of the list, x and y by turns, and has the chosen points on its boundary: smallest of all
+/// disks with a fractional centre and squared radius that do, and no other is as small. One point chosen twice is chosen once. The list
+/// is only read. The centre may be outside the em box and the squared radius above the limit of 500,000; then [`whole_radius`],
+/// [`preview`] and [`write_record`] refuse the disk ([`Refusal::BadRecord`]).
+///
+/// Refuses, in this order: [`Refusal::OddLength`], [`Refusal::NoPoint`], [`Refusal::TooMany`], [`Refusal::OutsideBox`];
+/// [`Refusal::NotInList`] for a chosen point that is not in the list, one outside the em box too; [`Refusal::NoDisk`] exactly where
+/// there is no such disk.
+///
+/// ```
+/// use volkhidar::{smallest_disk_through, Chosen, Disk, Point, Refusal};
+///
+/// let top = Chosen::One(Point { x: 5, y: 1 });
+/// assert_eq!(smallest_disk_through(&[0, 0, 10, 0, 5, 1], top), Ok(Disk { x: 5, y: -12, e: 1, s: 169 }));
+///
+/// let row = [0, 0, 2, 0, 4, 0];
+/// let ends = Chosen::Two(Point { x: 0, y: 0 }, Point { x: 4, y: 0 });
+/// assert_eq!(smallest_disk_through(&row, ends), Ok(Disk { x: 2, y: 0, e: 1, s: 4 }));
+/// assert_eq!(smallest_disk_through(&row, Chosen::One(Point { x: 2, y: 0 })), Err(Refusal::NoDisk));
+/// assert_eq!(smallest_disk_through(&row, Chosen::One(Point { x: 7, y: 7 })), Err(Refusal::NotInList));
+/// ```
+pub fn smallest_disk_through(list: &[i16], chosen: Chosen) -> Result<Disk, Refusal> {
+    let (first, second) = chosen.pair();
+    let answer = unsafe { raw::volkhidar_smallest_disk_through(list.as_ptr(), list.len(), first, second) };
+    checked(answer.refusal)?;
+    Ok(answer.disk)
 }
 
 /// The radius to cut with: the least whole number R with R²e² greater than s. The circle of radius R about the disk's centre keeps off

@@ -56,6 +56,12 @@ pub struct DiskAnswer {
 }
 
 #[repr(C)]
+pub struct ThroughAnswer {
+    pub refusal: u64,
+    pub disk: Disk,
+}
+
+#[repr(C)]
 pub struct RadiusAnswer {
     pub refusal: u64,
     pub radius: u64,
@@ -81,6 +87,7 @@ extern "C" {
     pub fn volkhidar_append_point(point: DrawnPoint, list: *mut i16, list_length: usize, n: usize) -> LoadAnswer;
     pub fn volkhidar_glyph(sheet: *const u8, sheet_length: usize, k: usize) -> GlyphAnswer;
     pub fn volkhidar_smallest_disk(list: *mut i16, list_length: usize) -> DiskAnswer;
+    pub fn volkhidar_smallest_disk_through(list: *const i16, list_length: usize, first: Point, second: Point) -> ThroughAnswer;
     pub fn volkhidar_whole_radius(disk: Disk, support: Support) -> RadiusAnswer;
     pub fn volkhidar_preview(disk: Disk, support: Support) -> PreviewAnswer;
     pub fn volkhidar_write_record(disk: Disk, support: Support, buffer: *mut u8, buffer_length: usize) -> u64;
@@ -139,5 +146,12 @@ mod tests {
         assert_eq!(answer.support.points, [ORIGIN; 3]);
         let answer = unsafe { volkhidar_glyph(bytes.as_ptr(), bytes.len(), 0) };
         assert_eq!((answer.refusal, answer.start, answer.length), (10, 0, 0));
+        let row = [0, 0, 2, 0, 4, 0];
+        for (x, refusal) in [(7, 12), (2, 13)] {
+            let chosen = Point { x, y: 0 };
+            let answer = unsafe { volkhidar_smallest_disk_through(row.as_ptr(), row.len(), chosen, chosen) };
+            let Disk { x, y, e, s } = answer.disk;
+            assert_eq!((answer.refusal, x, y, e, s), (refusal, 0, 0, 0, 0));
+        }
     }
 }

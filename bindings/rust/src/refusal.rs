@@ -27,10 +27,14 @@ pub enum Refusal {
     NoGlyph = 10,
     /// A NaN, an infinity or a float with a fraction in a point's x or y.
     NotWhole = 11,
+    /// A chosen point that is not in the list.
+    NotInList = 12,
+    /// No disk holds the list with the chosen points on its boundary.
+    NoDisk = 13,
 }
 
 impl Refusal {
-    const ALL: [Refusal; 11] = [
+    const ALL: [Refusal; 13] = [
         Refusal::TooLong,
         Refusal::BadLine,
         Refusal::OutsideBox,
@@ -42,6 +46,8 @@ impl Refusal {
         Refusal::OddLength,
         Refusal::NoGlyph,
         Refusal::NotWhole,
+        Refusal::NotInList,
+        Refusal::NoDisk,
     ];
 
     /// The number that the C interface and the listing program give it.
@@ -64,6 +70,8 @@ impl fmt::Display for Refusal {
             Refusal::OddLength => "a point list of odd length",
             Refusal::NoGlyph => "glyph number not below the count",
             Refusal::NotWhole => "a NaN, an infinity or a float with a fraction in a point's x or y",
+            Refusal::NotInList => "a chosen point that is not in the list",
+            Refusal::NoDisk => "no disk holds the list with the chosen points on its boundary",
         })
     }
 }

@@ -64,6 +64,24 @@ impl From<DrawnPoint> for raw::DrawnPoint {
     }
 }
 
+/// The points of a list that [`smallest_disk_through`](crate::smallest_disk_through) has on the boundary. One point as both of `Two` is
+/// chosen once.
+#[derive(Clone, Copy, PartialEq, Eq, Hash, Debug)]
+pub enum Chosen {
+    One(Point),
+    Two(Point, Point),
+}
+
+impl Chosen {
+    /// As the C interface is passed them: one point twice.
+    pub(crate) fn pair(self) -> (Point, Point) {
+        match self {
+            Chosen::One(a) => (a, a),
+            Chosen::Two(a, b) => (a, b),
+        }
+    }
+}
+
 /// What [`smallest_disk`](crate::smallest_disk) finds.
 #[derive(Clone, Copy, PartialEq, Eq, Hash, Debug)]
 pub struct Enclosed {

@@ -1,6 +1,7 @@
 //! The wrappers against the independent implementation in `tests/reference`, on drawn input. Every case has a fixed seed; a failure
 //! names it.
 
+use reference::chosen;
 use reference::damage;
 use reference::drawing;
 use reference::engine::{flat, points_of, solve};
@@ -120,6 +121,42 @@ fn compare_append(case: &AppendCase, name: &str) {
     assert_eq!(list, expected_list, "the list appended to: {name}");
     if let Ok(count) = count {
         compare_list(&list[..2 * count], name);
+    }
+}
+
+fn chosen_points(chosen: chosen::Chosen) -> Chosen {
+    let point = |p: ExpectedPoint| Point { x: p.x, y: p.y };
+    match chosen {
+        chosen::Chosen::One(a) => Chosen::One(point(a)),
+        chosen::Chosen::Two(a, b) => Chosen::Two(point(a), point(b)),
+    }
+}
+
+/// The same points chosen in another way: one twice, or two in the other order.
+fn chosen_otherwise(chosen: Chosen) -> Chosen {
+    match chosen {
+        Chosen::One(a) => Chosen::Two(a, a),
+        Chosen::Two(a, b) if a == b => Chosen::One(a),
+        Chosen::Two(a, b) => Chosen::Two(b, a),
+    }
+}
+
+/// The disk with chosen points on its boundary, then what radius, preview and record make of it with these points as its set.
+fn compare_chosen(list: &[i16], chosen: chosen::Chosen, name: &str) {
+    let expected = number(chosen::smallest_disk_through(list, chosen));
+    let ways = [chosen_points(chosen), chosen_otherwise(chosen_points(chosen))];
+    for way in ways {
+        let read = list.to_vec();
+        let disk = ours(smallest_disk_through(&read, way));
+        assert_eq!(disk.map(disk_of), expected, "{way:?}: {name}");
+        assert_eq!(read, list, "the list with {way:?}: {name}");
+    }
+    if let Ok(expected) = expected {
+        let mut set = chosen.set();
+        set.sort_unstable();
+        let (disk, support) = lent(&expected, &set).unwrap();
+        compare_figures(disk, support, name);
+        compare_writer(disk, support, 60, name);
     }
 }
 
@@ -246,6 +283,44 @@ fn whole_numbers_as_floats() {
 }
 
 #[test]
+fn drawn_choices() {
+    for seed in 0..50_000 {
+        let mut random = Random::new(seed);
+        let longest = random.pick(&[4, 12, 40]);
+        let case = chosen::draw(longest, &mut random);
+        compare_chosen(&case.list, case.chosen, &format!("seed {seed}"));
+    }
+    for edge in edges::choices() {
+        compare_chosen(&edge.given.list, edge.given.chosen, edge.says);
+    }
+}
+
+#[test]
+fn choices_from_long_lists() {
+    for seed in 0..100 {
+        let case = chosen::draw(MOST_POINTS, &mut Random::new(seed));
+        compare_chosen(&case.list, case.chosen, &format!("seed {seed}"));
+    }
+}
+
+/// The centre is (500, −124,999.5): all three points are 125,000.5 away from it, and no record can hold such a disk.
+#[test]
+fn a_centre_far_outside_the_em_box() {
+    let (a, top, b) = (Point { x: 0, y: 0 }, Point { x: 500, y: 1 }, Point { x: 1_000, y: 0 });
+    let disk = Disk { x: 1_000, y: -249_999, e: 2, s: 250_001 * 250_001 };
+    let list = [0, 0, 1_000, 0, 500, 1];
+    assert_eq!(smallest_disk_through(&list, Chosen::One(top)), Ok(disk));
+    compare_chosen(&list, chosen::Chosen::One(ExpectedPoint::new(500, 1)), "a point a unit above two others");
+    for support in [SupportSet::One(top), SupportSet::Three(a, top, b)] {
+        let mut buffer = [0xEE; RECORD_LENGTH];
+        assert_eq!(whole_radius(disk, support), Err(Refusal::BadRecord));
+        assert_eq!(preview(disk, support), Err(Refusal::BadRecord));
+        assert_eq!(write_record(disk, support, &mut buffer), Err(Refusal::BadRecord));
+        assert_eq!(buffer, [0xEE; RECORD_LENGTH]);
+    }
+}
+
+#[test]
 fn drawn_sheets() {
     for seed in 0..200_000 {
         let case = damage::sheet(&mut Random::new(seed));
@@ -289,12 +364,24 @@ fn fuzzed_bytes() {
         compare_reader(&few, &name);
         compare_sheet(&few, random.below(4), &name);
         compare_record_like(&mut random, &name);
-        compare_list(&any.chunks(2).map(|pair| i16::from(pair[0]) - 20).collect::<Vec<i16>>(), &name);
+        let list: Vec<i16> = any.chunks(2).map(|pair| i16::from(pair[0]) - 20).collect();
+        compare_list(&list, &name);
         if seed % 4 == 0 {
             compare_description(&any, 8_192, &name);
             compare_description(&drawn_bytes(&mut random, 40, b"0123 \n\n -9+x\t\r\0"), 8_192, &name);
         }
+        compare_any_choice(&list, &mut random, &name);
     }
+}
+
+/// Any two neighbours of the list's numbers as a chosen point, or any numbers at all.
+fn compare_any_choice(list: &[i16], random: &mut Random, name: &str) {
+    let point = |random: &mut Random| match list[random.below(list.len() + 1)..] {
+        [x, y, ..] => ExpectedPoint::new(x, y),
+        _ => ExpectedPoint::new(random.word() as i16, random.word() as i16),
+    };
+    let (a, b) = (point(random), point(random));
+    compare_chosen(list, random.pick(&[chosen::Chosen::One(a), chosen::Chosen::Two(a, b)]), name);
 }
 
 /// Any numbers at all as a disk and a support set.
