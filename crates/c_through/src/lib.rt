@@ -16,7 +16,8 @@ pub struct ThroughAnswer {
 }
 
 pub fn smallest_disk_through(list: &[i16], first: Point, second: Point) -> ThroughAnswer
-    ensures { λ r. ⌜ r ≡ throughAnswer (throughOf (now (list .entry)) (Two first second)) ⌝ }
+    ensures answer { λ r. ⌜ r ≡ throughAnswer (throughOf (now (list .entry)) (Two first second)) ⌝ }
+    ensures list { λ _. ⌜ now (list .exit) ≡ now (list .entry) ⌝ }
 {
     let through = chosen_points::smallest_disk_through(list, Chosen::Two(first, second));
     match through {

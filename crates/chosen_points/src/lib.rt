@@ -67,7 +67,8 @@ fn boundary_of(choice: Chosen) -> Boundary
 
 // The smallest disk that holds the list's points and has the chosen ones on its boundary. The list is only read.
 pub fn smallest_disk_through(list: &[i16], choice: Chosen) -> Through
-    ensures { λ r. ⌜ outcome r ≡ throughOf (now (list .entry)) choice ⌝ }
+    ensures answer { λ r. ⌜ outcome r ≡ throughOf (now (list .entry)) choice ⌝ }
+    ensures list { λ _. ⌜ now (list .exit) ≡ now (list .entry) ⌝ }
 {
     match engine::check(list) {
         Checked::Refused(r) => Through::Refused(r),

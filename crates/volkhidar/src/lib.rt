@@ -72,6 +72,7 @@ pub extern "C" fn volkhidar_smallest_disk_through(
     second: Point,
 ) -> ThroughAnswer
     ensures { λ r. ⌜ r ≡ throughAnswer (throughOf (now (list .entry)) (Two first second)) ⌝ }
+    ensures { λ _. ⌜ now (list .exit) ≡ now (list .entry) ⌝ }
 {
     c_through::smallest_disk_through(list, first, second)
 }

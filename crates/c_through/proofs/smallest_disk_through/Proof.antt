@@ -1,4 +1,5 @@
 -- `c_through::smallest_disk_through` meets its contract: each case of the answer is `throughAnswer` of its outcome.
+use mathlib.Core.Path.{refl}
 use borrow.Author.Needs.{needs}
 use Rattle.chosen_points.specs.Chosen.{outcome}
 use Rattle.c_types.proofs.Known.{known-outcome}
@@ -22,13 +23,13 @@ no-disk-requires : tie.Need-no-disk-requires
 no-disk-requires c κs = search needs
 
 returns : tie.Need-returns
-returns c = known-outcome outcome throughAnswer (c .before .through .given .1) (c .before .before .before .smallest-disk-through .ensures)
+returns c = (known-outcome outcome throughAnswer (c .before .through .given .1) (c .before .before .before .smallest-disk-through .ensures .0), refl)
 
 returns-2 : tie.Need-returns-2
 returns-2 c =
     let found = c .before .before .before in
-    rw (c .before .code .ensures, c .no-disk .ensures)
-    (known-outcome outcome throughAnswer (found .through2 .given .1) (found .before .before .smallest-disk-through .ensures))
+    let is = known-outcome outcome throughAnswer (found .through2 .given .1) (found .before .before .smallest-disk-through .ensures .0) in
+    (rw (c .before .code .ensures, c .no-disk .ensures) is, refl)
 
 pub smallest-disk-through-spec : {M : Type 1} → statement M
 smallest-disk-through-spec =

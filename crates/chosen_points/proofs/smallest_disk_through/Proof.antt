@@ -1,5 +1,5 @@
 -- `chosen_points::smallest_disk_through` meets its contract: each end is one of the row of checks, and the last two are what the search decides.
-use mathlib.Core.Path.{_≡_, sym, ap, subst, _∙_}
+use mathlib.Core.Path.{_≡_, refl, sym, ap, subst, _∙_}
 use mathlib.Core.Bool.{true}
 use mathlib.Core.List.{List}
 use native.Mathlib.Omega.{arith}
@@ -63,7 +63,7 @@ has-chosen-requires c κs = search needs
 returns : tie.Need-returns
 returns c =
     let t = c .before .before in
-    sym (through-absent (l t) (picked t) (passed t) (sym (c .before .has-chosen .ensures) ∙ not-true _ (c .if1 .taken)))
+    (sym (through-absent (l t) (picked t) (passed t) (sym (c .before .has-chosen .ensures) ∙ not-true _ (c .if1 .taken))), refl)
 
 boundary-of-requires : tie.Need-boundary-of-requires
 boundary-of-requires c κs = search needs
@@ -126,7 +126,7 @@ returns-2 c =
     let s = c .before .before .before .before in
     let a = s .args .list .now in
     let e : encloseOf a ≡ refused (numberOf (c .before .r .given .0 .0)) = subst (Checks a) (c .before .r .given .1) (c .before .before .before .check .ensures) in
-    sym (through-refused a (s .args .choice) e)
+    (sym (through-refused a (s .args .choice) e), refl)
 
 returns-3 : tie.Need-returns-3
 returns-3 c =
@@ -141,14 +141,15 @@ returns-3 c =
       leaf-back w64 _ largestOffset (k .gx-small) tt,
       leaf-back w64 _ largestOffset (k .gy-small) tt,
     ) at (c .written .ensures) in
-    sym (by-fit (a .before .before) ∙ smallest-given (fixed (picked t)) (points (l t)) (fixed-most (picked t)) (fixed-some (picked t)) (fixed-different (picked t))
-    (f .smallest) ∙ ap given (sym is))
+    let due = smallest-given (fixed (picked t)) (points (l t)) (fixed-most (picked t)) (fixed-some (picked t)) (fixed-different (picked t)) (f .smallest) in
+    (sym (by-fit (a .before .before) ∙ due ∙ ap given (sym is)), refl)
 
 returns-4 : tie.Need-returns-4
 returns-4 c =
     let t = told (there (c .before .before)) in
-    sym (by-fit (c .before .before) ∙ none-refused (fixed (picked t)) (points (l t)) (fixed-most (picked t)) (fixed-some (picked t)) (fixed-different (picked t))
-    (subst (Decides (fixed (picked t)) (points (l t))) (c .enum-told2 .given .1) (decides (c .before .before))))
+    let none = subst (Decides (fixed (picked t)) (points (l t))) (c .enum-told2 .given .1) (decides (c .before .before)) in
+    let due = none-refused (fixed (picked t)) (points (l t)) (fixed-most (picked t)) (fixed-some (picked t)) (fixed-different (picked t)) none in
+    (sym (by-fit (c .before .before) ∙ due), refl)
 
 pub smallest-disk-through-spec : {M : Type 1} → statement M
 smallest-disk-through-spec =
