@@ -9,7 +9,7 @@
 -- and its radius beyond that.
 use mathlib.Core.Path.{_≡_}
 use mathlib.Core.Logic.{_↔_}
-use mathlib.Core.List.{List, []}
+use mathlib.Core.List.{List}
 use Prim.Native.Nat.{_≤_}
 use lib.IntN.{ℤ}
 use Rattle.answers.specs.Outcome.{given, refused}
