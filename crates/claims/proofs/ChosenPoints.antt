@@ -95,7 +95,8 @@ module _ (l : List ℤ) (c : Chosen) where
 
   none-there : throughOf l c ≡ refused 13 → (k : RationalDisk) → Fits k P (chosen c) → ⊥
   none-there h k f =
-      refused-none F P (fixed-most c) (fixed-some c) (fixed-different c) (sym (accepts-through (thirteen-accepts h)) ∙ h) k (fits-same (same-sym (fixed-same c)) f)
+      refused-none F P (fixed-most c) (fixed-some c) (fixed-different c) (sym (accepts-through (thirteen-accepts h)) ∙ h) k
+      (fits-same (same-sym (fixed-same c)) f)
 
   there-none : Accepts l c → ((k : RationalDisk) → Fits k P (chosen c) → ⊥) → throughOf l c ≡ refused 13
   there-none a n =
@@ -112,7 +113,8 @@ module _ (l : List ℤ) (c k : Chosen) (s : Same (chosen c) (chosen k)) where
   due-same : (n : ℕ) → DueFirst (engineRow l ++ rest l c) n → DueFirst (engineRow l ++ rest l k) n
   due-same n d = due-append (engineRow l) (rest l k) n .1 (go (due-append (engineRow l) (rest l c) n .0 d))
     where
-      go : DueFirst (engineRow l) n ⊎ (AllKept (engineRow l) × DueFirst (rest l c) n) → DueFirst (engineRow l) n ⊎ (AllKept (engineRow l) × DueFirst (rest l k) n)
+      go : DueFirst (engineRow l) n ⊎ (AllKept (engineRow l) × DueFirst (rest l c) n)
+          → DueFirst (engineRow l) n ⊎ (AllKept (engineRow l) × DueFirst (rest l k) n)
       go (inl h) = inl h
       go (inr h) = inr (h .0, rest-same n (h .1))
 

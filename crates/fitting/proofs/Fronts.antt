@@ -75,7 +75,8 @@ pub first-in : (k : ℕ) (l : List ℤ) → 2 * k ≤ length l → (p : Point) �
 first-in k l fits p i =
     subst (In p) (sym (points-flat (firstPoints k l) (drop (2 * k) l)) ∙ ap points (flat-firstPoints k l fits)) (Memᴰ·append-left (points (drop (2 * k) l)) i)
 
-pub each-first : (Z : Point → Type 0) (k : ℕ) (l : List ℤ) → 2 * k ≤ length l → ((i : ℕ) → i < k → Z (pointAt l i)) → (p : Point) → In p (firstPoints k l) → Z p
+pub each-first : (Z : Point → Type 0) (k : ℕ) (l : List ℤ) → 2 * k ≤ length l → ((i : ℕ) → i < k → Z (pointAt l i))
+    → (p : Point) → In p (firstPoints k l) → Z p
 unfolding points
 each-first Z zero l fits h p m = none-of Z p m
 each-first Z (suc k) l fits h p m =

@@ -71,7 +71,7 @@ fn front_disk(list: &mut [i16], k: usize, fixed: Boundary) -> Fit
 }
 
 // The smallest disk that holds the list with R on its boundary. At each turn a point that is outside the disk of the first k comes to the
-// front; none is outside the disk of all.
+// front; with all points in front none is outside, so that one of the turns answers.
 fn search(list: &mut [i16], fixed: Boundary) -> Fit
     requires { ⌜ Fixes fixed ⌝ ∗ ⌜ AllGiven (now list) ⌝ }
     ensures { λ r. ⌜ Decides (members fixed) (points (now (list .entry))) r ⌝ }
@@ -108,7 +108,7 @@ fn search_in(list: &[i16], fixed: Boundary, room: &mut [i16]) -> Fit
     search(&mut room[..m], fixed)
 }
 
-// Most lists are short, and clearing room for the longest would take longer than the search.
+// Most lists are short, and clearing room for the longest would take as long as their search.
 fn search_short(list: &[i16], fixed: Boundary) -> Fit
     requires { ⌜ Fixes fixed ⌝ ∗ ⌜ AllGiven (now list) ⌝ ∗ ⌜ length (now list) ≤ 256 ⌝ }
     ensures { λ r. ⌜ Decides (members fixed) (points (now (list .entry))) r ⌝ }

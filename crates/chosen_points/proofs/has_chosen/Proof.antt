@@ -42,7 +42,8 @@ returns : tie.Need-returns
 returns c =
     let v = c .before .before .before .before .choice2 .given in
     let l = c .before .before .before .before .before .before .args .list .now in
-    rw (v .1) (c .has-point3 .ensures ∙ both-pass (has (points l)) (v .0 .0) (v .0 .1 .0) (sym (c .before .before .has-point2 .ensures) ∙ c .before .if1 .taken))
+    let first = sym (c .before .before .has-point2 .ensures) ∙ c .before .if1 .taken in
+    rw (v .1) (c .has-point3 .ensures ∙ both-pass (has (points l)) (v .0 .0) (v .0 .1 .0) first)
 
 returns-2 : tie.Need-returns-2
 returns-2 c =

@@ -125,7 +125,8 @@ returns-2 : tie.Need-returns-2
 returns-2 c =
     let s = c .before .before .before .before in
     let a = s .args .list .now in
-    let e : encloseOf a ≡ refused (numberOf (c .before .r .given .0 .0)) = subst (Checks a) (c .before .r .given .1) (c .before .before .before .check .ensures) in
+    let r = c .before .r .given in
+    let e : encloseOf a ≡ refused (numberOf (r .0 .0)) = subst (Checks a) (r .1) (c .before .before .before .check .ensures) in
     (sym (through-refused a (s .args .choice) e), refl)
 
 returns-3 : tie.Need-returns-3

@@ -82,7 +82,8 @@ same-length-2 c = search needs
 returns-2 : tie.Need-returns-2
 returns-2 c =
     let l = now (c .before .before .before .before .before .args .list) in
-    let e : encloseOf l ≡ refused (numberOf (c .before .r .given .0 .0)) = subst (Checks l) (c .before .r .given .1) (c .before .before .before .check .ensures) in
+    let r = c .before .r .given in
+    let e : encloseOf l ≡ refused (numberOf (r .0 .0)) = subst (Checks l) (r .1) (c .before .before .before .check .ensures) in
     (sym e, sym (list-refused l e))
 
 pub smallest-disk-spec : {M : Type 1} → statement M

@@ -82,7 +82,10 @@ module _ (c : tie.After-front-disk Inv-loop μ-loop) where
     -- no point of the list left is outside
     all-held : OutsideAt left d (length left / 2) (n at) → Found R (points (came at)) d
     all-held none = found-more is (among at) (boxed at) (λ p i. each-first (λ (q : Point). isOutside d q ≡ false) (n at) left (omega (arith, whole))
-        (λ j h. none .none (sym half) j (omega (arith, h, half))) p (subst (In p) (sym (firstPoints-all (n at) left whole)) (perm-in (Permᴰ·symm (order .permuted)) i)))
+        (λ j h. none .none (sym half) j (omega (arith, h, half))) p (in-left p i))
+      where
+        in-left : (p : Point) → In p (points (came at)) → In p (firstPoints (n at) left)
+        in-left p i = subst (In p) (sym (firstPoints-all (n at) left whole)) (perm-in (Permᴰ·symm (order .permuted)) i)
 
     -- a point outside is not one of those in front
     more : (i : ℕ) → i < n at → isOutside d (pointAt left i) ≡ true → at .loop .k < n at
@@ -96,7 +99,7 @@ module _ (c : tie.After-front-disk Inv-loop μ-loop) where
 
 -- the disk of the first k points, where one was found
 found-disk : (c : tie.After-d Inv-loop μ-loop) → Found (R (c .before .before .before)) (Q (c .before .before .before)) (c .d .given .0 .0)
-found-disk c = subst (Decides (R (c .before .before .before)) (Q (c .before .before .before))) (c .d .given .1) (c .before .before .before .front-disk .ensures .0)
+found-disk c = let f = c .before .before .before in subst (Decides (R f) (Q f)) (c .d .given .1) (f .front-disk .ensures .0)
 
 loop-holds : tie.Need-loop-holds Inv-loop μ-loop
 loop-holds c = (omega arith, omega arith, permuted-refl (c .args .list .now))
