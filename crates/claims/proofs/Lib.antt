@@ -3,11 +3,5 @@ pub mod Demand1
 pub mod Demand2
 pub mod Demand3
 pub mod FromFixed
-pub mod TextLeads
-pub mod InnerLevel
-pub mod ChosenPoints
 pub mod Values
 pub mod Whole
-pub mod DrawnPoints
-pub mod CutKeepsOff
-pub mod RecordCount

@@ -50,7 +50,7 @@ pub record IsPart (s : List ℕ) (k : ℕ) (bs : List ℕ) : Type 0 where
 
 -- ---- the whole radius (01: the cutting radius)
 
--- "the least whole R with R²E² greater than S" (02, item 3; what it says of the points: CutKeepsOff.antt)
+-- "the least whole R with R²E² greater than S" (02, item 3; what it says of the points: requests/specs/CutKeepsOff.antt)
 pub record LeastRadius (d : Disk) (r : ℕ) : Type 0 where
   pub clears : d .s < r * r * (d .e * d .e)
   pub least : (q : ℕ) → d .s < q * q * (d .e * d .e) → r ≤ q

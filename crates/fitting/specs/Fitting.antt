@@ -5,7 +5,7 @@
 --   fittingDisk P R  == the disk on which Welzl's procedure ends on P with R fixed, if it fits; 13 if it does not
 --
 -- That no other disk fits where this one does not, and that it is the smallest where it does, is shown in proofs/Decided.antt, for R of one to three
--- different points; what document 02 says of it is claimed in claims/specs/ChosenPoints.antt.
+-- different points; what document 02 says of it is claimed in requests/specs/ChosenPoints.antt.
 use mathlib.Core.Bool.{Bool, false, not, _&&_}
 use mathlib.Core.List.{List}
 use lib.Dec.{ltb}

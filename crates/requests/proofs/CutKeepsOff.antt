@@ -31,11 +31,11 @@ use Rattle.radius.specs.Radius.{radiusOf}
 use Rattle.preview.specs.declared.Preview.{Preview}
 use Rattle.preview.specs.Preview.{previewOf}
 use Rattle.rules.proofs.Recordables.{valid-recordable}
 use Rattle.claims.specs.Values.{LeastRadius}
-use Rattle.claims.specs.CutKeepsOff.{Off, LeastOff, CutKeepsOff}
+use Rattle.requests.specs.CutKeepsOff.{Off, LeastOff, CutKeepsOff}
 use Rattle.claims.proofs.Demand2.{engine-right}
 use Rattle.claims.proofs.Values.{all-values, least-same}
 use Rattle.claims.proofs.Whole.{whole-way}
 
 off-held : (d : Disk) (r : ℕ) → d .s < r * r * (d .e * d .e) → (p : Point) → T (holds d p) → Off d r p
 unfolding holds

@@ -47,11 +47,11 @@ use Rattle.rules.specs.Row.{AllKept}
 use Rattle.rules.specs.Rules.{Names, appendRow}
 use Rattle.rules.proofs.Drawings.{paired, names-place, named-once}
 use Rattle.rules.proofs.Calls as calls
 use Rattle.claims.specs.Values.{bits}
 use Rattle.claims.specs.Demand3.{Answers, answersFor}
-use Rattle.claims.specs.DrawnPoints.{Broken, not-a-number, infinite, fraction, SameNumber, EqualValue, Led, led, DrawnPoints}
+use Rattle.requests.specs.DrawnPoints.{Broken, not-a-number, infinite, fraction, SameNumber, EqualValue, Led, led, DrawnPoints}
 use Rattle.claims.proofs.Records.{filled}
 use Rattle.claims.proofs.Whole.{both-given}
 
 -- ---- floats
 

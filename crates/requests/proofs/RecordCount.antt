@@ -20,9 +20,9 @@ use Rattle.letter.specs.Letter.{Letter}
 use Rattle.letter.specs.Letter as letter
 use Rattle.letter.proofs.Whole.{letter-short}
 use Rattle.rules.proofs.Recordables.{valid-recordable, recordable-valid}
-use Rattle.claims.specs.RecordCount.{Counted, RecordCount}
+use Rattle.requests.specs.RecordCount.{Counted, RecordCount}
 use Rattle.claims.proofs.Records.{written, written-valid, filled}
 use Rattle.claims.proofs.Whole.{steps}
 
 read-counted : (bs : List ℕ) (d : Disk) (ps : List Point) → readOf bs ≡ given (d, ps) → Counted bs ps
 read-counted bs d ps h =

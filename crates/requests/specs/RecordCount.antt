@@ -1,5 +1,5 @@
 -- Document 02, item 4: the count of points (rim count) written in the record. This is said over the definitions that the contracts of the public calls
--- cite; that the reader takes the records of valid disks and points alone is `reader` of Values.antt. Shown in proofs/RecordCount.antt.
+-- cite; that the reader takes the records of valid disks and points alone is `reader` of claims/specs/Values.antt. Shown in proofs/RecordCount.antt.
 --
 --   Counted bs ps   == bs are 45 bytes, and the 45th is the number of the points ps: 1, 2 or 3
 --   RecordCount     == all that item 4 says

@@ -32,7 +32,7 @@ use Rattle.rules.specs.Row.{Rule, _unless_, DueFirst, AllKept}
 use Rattle.rules.specs.Rules.{engineRow}
 use Rattle.rules.proofs.RowLaws.{due-append, kept-append}
 use Rattle.rules.proofs.Calls as calls
-use Rattle.claims.specs.ChosenPoints.{Accepts, ChosenPoints}
+use Rattle.requests.specs.ChosenPoints.{Accepts, ChosenPoints}
 
 module _ (l : List ℤ) (c : Chosen) where
   abbrev P : List Point

@@ -1,5 +1,5 @@
 -- Document 02, item 3: the cut, which is the circle of the whole radius about the disk's centre, keeps off every point. This is said over the definitions
--- that the contracts of the public calls cite; the rule for the radius is `LeastRadius` of Values.antt. Shown in proofs/CutKeepsOff.antt.
+-- that the contracts of the public calls cite; the rule for the radius is `LeastRadius` of claims/specs/Values.antt. Shown in proofs/CutKeepsOff.antt.
 --
 --   Off d r p       == the circle of radius r about d's centre keeps off p, which lies inside it and not on it: (xE − X)² + (yE − Y)² is less than r²E²
 --   LeastOff P d r  == r is the least whole number whose circle about d's centre keeps off every point of P

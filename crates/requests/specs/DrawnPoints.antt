@@ -1,5 +1,5 @@
 -- Document 02, item 2: points from a drawing program's own values, over the definitions that the contracts of the public calls cite. The refusals
--- and that a refused call changes nothing are claimed with the other calls' (Demand1.antt). Shown in proofs/DrawnPoints.antt.
+-- and that a refused call changes nothing are claimed with the other calls' (claims/specs/Demand1.antt). Shown in proofs/DrawnPoints.antt.
 --
 --   Broken v          == v is a NaN, an infinity, or a float with a fraction
 --   SameNumber v w    == the finite floats v and w have one value, whole or not

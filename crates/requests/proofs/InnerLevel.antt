@@ -27,8 +27,8 @@ use Rattle.relative_disks.proofs.RelativeLaws.{weightIn, Proper, stands-proper,
 use Rattle.fixed_points.specs.declared.Boundary.the-variants.{Two}
 use Rattle.inner_level.specs.Ran.{Given, Ran}
 use Rattle.inner_level.proofs.RanLaws.{ran-left, ran-rest}
-use Rattle.claims.specs.InnerLevel.{endState, ByItself, InnerLevel}
-use Rattle.claims.proofs.TextLeads.{InARow, text-or-row}
+use Rattle.requests.specs.InnerLevel.{endState, ByItself, InnerLevel}
+use Rattle.requests.proofs.TextLeads.{InARow, text-or-row}
 
 through-proper : {R : List Point} {c : Cover} → SmallestThrough R c → 1 ≤ length R → 1 ≤ weightIn c
 through-proper none h = absurd (omega arith)

@@ -1,5 +1,5 @@
 -- Document 02, item 6: the smallest disk with one or two chosen points on its boundary, over the definition that the contract of
--- `smallest_disk_through` of the crate `chosen_points` cites. The refusals are claimed with the other calls' too (Demand1.antt). That the list
+-- `smallest_disk_through` of the crate `chosen_points` cites. The refusals are claimed with the other calls' too (claims/specs/Demand1.antt). That the list
 -- is left unchanged is in the contract. Shown in proofs/ChosenPoints.antt.
 --
 --   ChosenPoints   == all that item 6 says

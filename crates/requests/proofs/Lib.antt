@@ -1,0 +1,6 @@
+pub mod DrawnPoints
+pub mod CutKeepsOff
+pub mod RecordCount
+pub mod TextLeads
+pub mod InnerLevel
+pub mod ChosenPoints

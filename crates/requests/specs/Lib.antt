@@ -1,0 +1,6 @@
+-- Document 02's claims, one file an item, in the order of the items.
+pub mod DrawnPoints
+pub mod CutKeepsOff
+pub mod RecordCount
+pub mod InnerLevel
+pub mod ChosenPoints
