@@ -24,7 +24,8 @@ std::vector<Entry>& entries() {
 namespace {
 using namespace bench;
 
-constexpr double SECONDS = 0.03;
+// A cell runs at least so many rounds, and more until it has run so long in all.
+constexpr double SECONDS = 0.2;
 constexpr int LEAST_ROUNDS = 3;
 
 struct Size {
