@@ -2,6 +2,7 @@
 -- `smallest_disk_through` of the crate `chosen_points` cites. The refusals are claimed with the other calls' too (claims/specs/Demand1.antt). That the list
 -- is left unchanged is in the contract. Shown in proofs/ChosenPoints.antt.
 --
+--   Accepts l c    == the list l breaks no rule of the engine, and the chosen points are in it
 --   ChosenPoints   == all that item 6 says
 --
 -- `SmallestWith P R d` (disks/specs/Smallest.antt): d holds P and has R on its boundary, no disk with a fractional centre and squared radius that
@@ -25,7 +26,6 @@ use Rattle.chosen_points.specs.Chosen.{chosen, throughOf}
 use Rattle.rules.specs.Row.{AllKept}
 use Rattle.rules.specs.Rules.{engineRow}
 
--- the list breaks no rule of the engine, and the chosen points are in it
 abbrev pub Accepts : List ℤ → Chosen → Type 0
 Accepts l c = AllKept (engineRow l) × ((p : Point) → In p (chosen c) → In p (points l))
 
