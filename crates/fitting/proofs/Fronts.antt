@@ -53,7 +53,8 @@ put-for ps qs l d = record {
   permuted = rw (points-flat ps l, points-flat qs l) (Permᴰ·append-right (points l) d);
 }
 
-pub front-run : (k : ℕ) (l m : List ℤ) (ps : List Point) → 2 * k ≤ length l → List·Permᴰ ps (firstPoints k l) → m ≡ flat ps ++ drop (2 * k) l → Permuted l m
+pub front-run : (k : ℕ) (l m : List ℤ) (ps : List Point) → 2 * k ≤ length l → List·Permᴰ ps (firstPoints k l)
+    → m ≡ flat ps ++ drop (2 * k) l → Permuted l m
 front-run k l m ps fits d is =
     subst (λ (x : List ℤ). Permuted x m) (flat-firstPoints k l fits) (subst (Permuted (flat (firstPoints k l) ++ drop (2 * k) l)) (sym is)
     (put-for ps (firstPoints k l) (drop (2 * k) l) d))
