@@ -8,7 +8,7 @@ use Prim.Native.Nat.{ℕ}
 use mathlib.Core.Bool.{Bool, true, false}
 use Rattle.answers.specs.declared.Refusal.{Refusal}
 use Rattle.answers.specs.declared.Refusal.the-variants.{TooLong, BadLine, OutsideBox, TooMany, NoPoint, BadSheet, BadRecord, NoRoom}
-use Rattle.answers.specs.declared.Refusal.the-variants.{OddLength, NoGlyph, NotWhole, NotInList, NoDisk}
+use Rattle.answers.specs.declared.Refusal.the-variants.{OddLength, NoGlyph, NotWhole, NotInList, NoDisk, BadTolerance}
 
 pub data Outcome (A : Type 0) : Type 0 where
   given : A → Outcome A
@@ -28,6 +28,7 @@ numberOf NoGlyph = 10
 numberOf NotWhole = 11
 numberOf NotInList = 12
 numberOf NoDisk = 13
+numberOf BadTolerance = 14
 
 abbrev pub refuseIf : {A : Type 0} → Bool → ℕ → Outcome A → Outcome A
 refuseIf true n rest = refused n

@@ -7,9 +7,9 @@ pub enum Refusal {
     TooLong,
     // A line that is neither blank nor a point.
     BadLine,
-    // A point outside the em box.
+    // A point outside the em box; a traced point whose square leaves it.
     OutsideBox,
-    // More than 4,096 points.
+    // More than 4,096 points; more than 1,024 traced points.
     TooMany,
     // No point.
     NoPoint,
@@ -19,7 +19,7 @@ pub enum Refusal {
     BadRecord,
     // A lent list or buffer that is too short.
     NoRoom,
-    // A point list of odd length.
+    // A point list of odd length; a list of traced points that does not go by threes.
     OddLength,
     // A glyph number not below the count.
     NoGlyph,
@@ -29,6 +29,8 @@ pub enum Refusal {
     NotInList,
     // No disk holds the list with the chosen points on its boundary.
     NoDisk,
+    // A traced point whose t is outside 0 to 50.
+    BadTolerance,
 }
 
 // The number that document 01 or 02 gives the refusal.
@@ -49,5 +51,6 @@ pub fn number(r: Refusal) -> u8
         Refusal::NotWhole => 11,
         Refusal::NotInList => 12,
         Refusal::NoDisk => 13,
+        Refusal::BadTolerance => 14,
     }
 }

@@ -1,6 +1,5 @@
 -- The whole way from a description's bytes to the meaning of its answers (specs/Whole.antt).
 --
---   both-given    : a call after another gave a value: so did each
 --   encloses      : loader, then engine, goes by the loader's row
 --   Steps, steps  == the calls that gave the answers
 --   whole-way, record-of, tests-mean : WholeWay, RecordOf, TestsMean
@@ -15,7 +14,7 @@ use lib.Dec.{ltb}
 use lib.IntN.{ℤ}
 use lib.ListN.{length, take, drop}
 use Rattle.answers.specs.Outcome.{Outcome, given, refused, refuseIf, andThen}
-use Rattle.answers.proofs.OutcomeLaws.{not-given, not-refused, given-same, same-given}
+use Rattle.answers.proofs.OutcomeLaws.{not-given, not-refused, given-same, same-given, both-given}
 use Rattle.integers.specs.Order.{_≺_}
 use Rattle.geometry.specs.declared.Point.{Point}
 use Rattle.geometry.specs.declared.Disk.{Disk}
@@ -50,10 +49,6 @@ use Rattle.claims.proofs.Records.{filled}
 use Rattle.claims.proofs.Demand2.{engine-right}
 use Rattle.claims.proofs.Demand3.{answers, worked-is}
 use Rattle.claims.proofs.Values.{all-values}
-
-pub both-given : {A B : Type 0} (o : Outcome A) (f : A → Outcome B) (b : B) → andThen o f ≡ given b → (a : A) × ((o ≡ given a) × (f a ≡ given b))
-both-given (given a) f b e = (a, (refl, e))
-both-given (refused n) f b e = absurd (not-given e)
 
 -- ---- loader and engine
 

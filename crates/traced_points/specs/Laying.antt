@@ -1,0 +1,39 @@
+-- What the parts of the call ask and promise.
+--
+--   tracedAt l i   == traced point i of the list l, from 0
+--   verdict r      == what the answer r of a check says
+--   Checks l r     == r is what the call's checks say of the list l: none refuses it, and the disk of the squares' corners is due; or it is refused so
+--   Boxed s        == the corners of the square of s lie in the em box
+--   AllBoxed ss    == those of all squares do
+--   Laid l m       == the numbers m have room for the corners of l's squares, eight numbers each
+use mathlib.Core.Path.{_≡_}
+use mathlib.Core.Bool.{true}
+use mathlib.Core.List.{List, List·Memᴰ}
+use Prim.Native.Nat.{ℕ, _+_, _*_}
+use lib.IntN.{ℤ, pos}
+use lib.ListN.{getD}
+use Rattle.answers.specs.Outcome.{Outcome, given, refused, numberOf}
+use Rattle.geometry.specs.EmBox.{allInEmBox}
+use Rattle.disks.specs.Procedure.{diskOf}
+use Rattle.engine.specs.declared.Checked.{Checked}
+use Rattle.engine.specs.declared.Checked.the-variants.{Passed, Refused}
+use Rattle.tracings.specs.declared.TracedPoint.{TracedPoint}
+use Rattle.tracings.specs.Squares.{corners, allCorners}
+use Rattle.traced_points.specs.Traced.{traced, tracedOf}
+
+abbrev pub tracedAt : List ℤ → ℕ → TracedPoint
+tracedAt l i = record { x = getD l (3 * i) (pos 0); y = getD l (3 * i + 1) (pos 0); t = getD l (3 * i + 2) (pos 0) }
+
+abbrev pub verdict : Checked → Outcome (Unit {0})
+verdict Passed = given tt
+verdict (Refused r) = refused (numberOf r)
+
+abbrev pub Checks : List ℤ → Checked → Type 0
+Checks l Passed = tracedOf l ≡ given (diskOf (allCorners (traced l)))
+Checks l (Refused r) = tracedOf l ≡ refused (numberOf r)
+
+abbrev pub Boxed : TracedPoint → Type 0
+Boxed s = allInEmBox (corners s) ≡ true
+
+abbrev pub AllBoxed : List TracedPoint → Type 0
+AllBoxed ss = (s : TracedPoint) → List·Memᴰ s ss → Boxed s

@@ -1,0 +1,3 @@
+pub mod Traced
+-- of inner contracts
+pub mod Laying

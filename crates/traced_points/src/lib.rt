@@ -1,0 +1,156 @@
+// The smallest disk that holds a hand-traced letter, wherever its points may really be within their squares (02, item 7).
+//
+// A disk holds a square exactly where it holds the square's four corners. So the corners of all squares are laid out as a list of points, and
+// Welzl's procedure runs on them.
+use answers::Refusal;
+use engine::Checked;
+use geometry::Disk;
+use geometry::Limits;
+use geometry::Point;
+use tracings::TracedPoint;
+ghost use mathlib.Core.Path.{_≡_};
+ghost use mathlib.Core.Bool.{true};
+ghost use mathlib.Core.List.{_++_};
+ghost use Prim.Native.Nat.{_+_, _*_, _/_, _%_, _≤_};
+ghost use lib.IntN.{pos};
+ghost use lib.ListN.{length};
+ghost use Rattle.integers.specs.Order.{_≼_};
+ghost use Rattle.geometry.specs.EmBox.{allInEmBox};
+ghost use Rattle.geometry.specs.Points.{points, firstPoints};
+ghost use Rattle.disks.specs.Procedure.{diskOf};
+ghost use Rattle.tracings.specs.Squares.{corners, allCorners};
+ghost use Rattle.traced_points.specs.Traced.{traced, tolerated, fault, firstFault, outcome, tracedOf};
+ghost use Rattle.traced_points.specs.Laying.{tracedAt, verdict, Checks, Boxed, AllBoxed};
+
+pub enum Traced {
+    Found(Disk),
+    Refused(Refusal),
+}
+
+// Traced point i of the list.
+fn traced_at(list: &[i16], i: usize) -> TracedPoint
+    requires { ⌜ 3 * i + 3 ≤ length (now list) ⌝ }
+    ensures { λ r. ⌜ r ≡ tracedAt (now (list .entry)) i ⌝ }
+{
+    let x = list[3 * i];
+    let y = list[3 * i + 1];
+    let t = list[3 * i + 2];
+    TracedPoint { x, y, t }
+}
+
+// Whether t is from 0 to 50.
+fn is_tolerated(s: TracedPoint) -> bool
+    ensures { λ r. ⌜ r ≡ tolerated s ⌝ }
+{
+    integers::is_between(0, geometry::wide(s.t), 50)
+}
+
+// Whether the square of s lies in the em box: its middle then lies in the box that is narrower by t on each side.
+fn is_boxed(s: TracedPoint) -> bool
+    requires { ⌜ pos 0 ≼ s .t ⌝ }
+    ensures { λ r. ⌜ r ≡ allInEmBox (corners s) ⌝ }
+{
+    let em = geometry::em_limits();
+    let t = geometry::wide(s.t);
+    let narrower = Limits {
+        left: em.left + t,
+        right: em.right - t,
+        foot: em.foot + t,
+        top: em.top - t,
+        scale: em.scale,
+        square: em.square,
+    };
+    let x = s.x;
+    let y = s.y;
+    geometry::in_box(narrower, Point { x, y })
+}
+
+// The rules of one traced point.
+fn check_point(s: TracedPoint) -> Checked
+    ensures { λ r. ⌜ verdict r ≡ fault s ⌝ }
+{
+    if !is_tolerated(s) {
+        return Checked::Refused(Refusal::BadTolerance);
+    }
+    if !is_boxed(s) {
+        return Checked::Refused(Refusal::OutsideBox);
+    }
+    Checked::Passed
+}
+
+// The first faulty traced point decides.
+fn check_points(list: &[i16]) -> Checked
+    requires { ⌜ length (now list) % 3 ≡ 0 ⌝ }
+    ensures { λ r. ⌜ verdict r ≡ firstFault (traced (now (list .entry))) ⌝ }
+{
+    let n = list.len() / 3;
+    for i in 0..n {
+        match check_point(traced_at(list, i)) {
+            Checked::Passed => {}
+            Checked::Refused(r) => {
+                return Checked::Refused(r);
+            }
+        }
+    }
+    Checked::Passed
+}
+
+// The call's checks, in their order.
+fn check(list: &[i16]) -> Checked
+    ensures { λ r. ⌜ Checks (now (list .entry)) r ⌝ }
+{
+    if list.len() % 3 != 0 {
+        return Checked::Refused(Refusal::OddLength);
+    }
+    if list.len() == 0 {
+        return Checked::Refused(Refusal::NoPoint);
+    }
+    if 1024 < list.len() / 3 {
+        return Checked::Refused(Refusal::TooMany);
+    }
+    check_points(list)
+}
+
+// Writes the corners of the square of s as points 4i to 4i + 3.
+fn put_corners(room: &mut [i16], i: usize, s: TracedPoint)
+    requires { ⌜ 8 * i + 8 ≤ length (now room) ⌝ ∗ ⌜ Boxed s ⌝ }
+    ensures { λ _. ⌜ firstPoints (4 * (i + 1)) (now (room .exit)) ≡ firstPoints (4 * i) (now (room .entry)) ++ corners s ⌝ }
+{
+    let left = s.x - s.t;
+    let right = s.x + s.t;
+    let low = s.y - s.t;
+    let high = s.y + s.t;
+    let j = 4 * i;
+    point_lists::put_point(room, j, Point { x: left, y: low });
+    point_lists::put_point(room, j + 1, Point { x: left, y: high });
+    point_lists::put_point(room, j + 2, Point { x: right, y: low });
+    point_lists::put_point(room, j + 3, Point { x: right, y: high });
+}
+
+// Writes the corners of all squares.
+fn lay_out(list: &[i16], room: &mut [i16])
+    requires { ⌜ length (now list) % 3 ≡ 0 ⌝ ∗ ⌜ AllBoxed (traced (now list)) ⌝ ∗ ⌜ length (now room) ≡ 8 * (length (now list) / 3) ⌝ }
+    ensures { λ _. ⌜ points (now (room .exit)) ≡ allCorners (traced (now (list .entry))) ⌝ }
+{
+    let n = list.len() / 3;
+    for i in 0..n {
+        put_corners(room, i, traced_at(list, i));
+    }
+}
+
+// The smallest disk that holds the list's points wherever they may really be. The list is only read.
+pub fn smallest_disk_of_traced(list: &[i16]) -> Traced
+    ensures answer { λ r. ⌜ outcome r ≡ tracedOf (now (list .entry)) ⌝ }
+    ensures list { λ _. ⌜ now (list .exit) ≡ now (list .entry) ⌝ }
+{
+    match check(list) {
+        Checked::Refused(r) => Traced::Refused(r),
+        Checked::Passed => {
+            let mut room = [0i16; 8192];
+            let m = 8 * (list.len() / 3);
+            lay_out(list, &mut room[..m]);
+            let run = welzl::smallest(&mut room[..m]);
+            Traced::Found(run.disk)
+        }
+    }
+}
