@@ -47,13 +47,13 @@ pub fn wide(v: i16) -> i64
 }
 
 // The em box, and a number to the left of it.
-const LEFT: i64 = 0;
+pub const LEFT: i64 = 0;
 
-const RIGHT: i64 = 1000;
+pub const RIGHT: i64 = 1000;
 
-const FOOT: i64 = -250;
+pub const FOOT: i64 = -250;
 
-const TOP: i64 = 750;
+pub const TOP: i64 = 750;
 
 pub const LEFT_OF_BOX: i64 = -1;
 

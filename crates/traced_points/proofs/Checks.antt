@@ -2,9 +2,9 @@
 --
 --   fault-tolerance, fault-box, fault-none : what the rules say of one traced point, by its two tests
 --   fault-here, fault-past, fault-end      : what they say of all, by the first
---   Right s, all-right    == t and the square of s keep their rules; so of each traced point where none is faulty
+--   all-right             : where none is faulty each keeps its rules
 --   refused-threes, refused-empty, refused-long, refused-fault, accepted : the answer due, by the first check that refuses
---   Accepted l, accepted-list == the rules for a list of traced points; a list whose answer is given keeps them
+--   accepted-list         : a list whose answer is given keeps the rules
 use mathlib.Core.Path.{_≡_, refl, sym, ap, _∙_}
 use mathlib.Core.Logic.{_⊎_, inl, inr}
 use mathlib.Core.Bool.{true, false}
@@ -22,7 +22,7 @@ use Rattle.disks.specs.Procedure.{diskOf}
 use Rattle.tracings.specs.declared.TracedPoint.{TracedPoint}
 use Rattle.tracings.specs.Squares.{corners, allCorners}
 use Rattle.traced_points.specs.Traced.{traced, tolerated, fault, firstFault, tracedOf}
-use Rattle.traced_points.specs.Laying.{Boxed}
+use Rattle.traced_points.specs.Laying.{Right, Accepted}
 
 -- ---- one traced point
 
@@ -39,11 +39,7 @@ module _ (s : TracedPoint) where
   unfolding fault
   fault-none t b = rw (t, b)
 
-  pub record Right : Type 0 where
-    pub range : tolerated s ≡ true
-    pub boxed : Boxed s
-
-  right : fault s ≡ given tt → Right
+  right : fault s ≡ given tt → Right s
   unfolding fault
   right h =
       let fourteen = not-refused _ 14 h in
@@ -68,19 +64,11 @@ fault-end = refl
 pub all-right : (ss : List TracedPoint) → firstFault ss ≡ given tt → (s : TracedPoint) → List·Memᴰ s ss → Right s
 unfolding firstFault
 all-right [] h s i = absurd (List·Memᴰ·not-nil i)
-all-right (r ∷ ss) h s i = go (both-given (fault r) _ tt h) (List·Memᴰ·cases-cons i)
-  where
-    go : (u : Unit {0}) × ((fault r ≡ given u) × (firstFault ss ≡ given tt)) → (s ≡ r) ⊎ List·Memᴰ s ss → Right s
-    go k (inl e) = rw e (right r (k .1 .0))
-    go k (inr m) = all-right ss (k .1 .1) s m
+all-right (r ∷ ss) h s i =
+    let k = both-given (fault r) _ tt h in
+    elim (List·Memᴰ·cases-cons i) [ inl e ↦ rw e (right r (k .1 .0)) | inr m ↦ all-right ss (k .1 .1) s m ]
 
 -- ---- the list
-
-pub record Accepted (l : List ℤ) : Type 0 where
-  pub threes : length l % 3 ≡ 0
-  pub some : length l ≡ 0 → ⊥
-  pub few : length l / 3 ≤ 1024
-  pub each : (s : TracedPoint) → List·Memᴰ s (traced l) → Right s
 
 module _ (l : List ℤ) where
   pub refused-threes : (length l % 3 ≡ 0 → ⊥) → tracedOf l ≡ refused 9

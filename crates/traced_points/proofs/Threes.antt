@@ -3,9 +3,10 @@
 --   length-traced   : a list by threes has a traced point for three numbers
 --   traced-from     : the traced points of the numbers from 3i on are traced point i and those from 3(i + 1) on
 --   traced-end      : behind the last number there is none
+--   traced-at-in    : traced point i is one of them
 use mathlib.Core.Path.{_≡_, refl, ap, _∙_}
-use mathlib.Core.List.{List, [], _∷_}
-use Prim.Native.Nat.{ℕ, suc, _+_, _*_, _%_, _≤_}
+use mathlib.Core.List.{List, [], _∷_, List·Memᴰ, List·Memᴰ·head, List·Memᴰ·tail}
+use Prim.Native.Nat.{ℕ, zero, suc, _+_, _*_, _%_, _≤_}
 use native.Mathlib.Numerals.{add-one, add-two}
 use native.Mathlib.Omega.{arith}
 use lib.IntN.{ℤ, pos}
@@ -40,3 +41,15 @@ traced-from l i h =
 pub traced-end : (l : List ℤ) (i : ℕ) → length l ≤ 3 * i → traced (drop (3 * i) l) ≡ []
 unfolding traced
 traced-end l i h = ap traced (drop-of-length-le l {i = 3 * i} h)
+
+pub traced-at-in : (l : List ℤ) (i : ℕ) → 3 * i + 3 ≤ length l → List·Memᴰ (tracedAt l i) (traced l)
+unfolding traced
+traced-at-in [] i h = absurd (omega arith)
+traced-at-in (x ∷ []) i h = absurd (omega arith)
+traced-at-in (x ∷ y ∷ []) i h = absurd (omega arith)
+traced-at-in (x ∷ y ∷ t ∷ l) zero h = List·Memᴰ·head refl
+traced-at-in (x ∷ y ∷ t ∷ l) (suc i) h =
+    let next : 3 * suc i ≡ suc (suc (suc (3 * i))) = omega arith in
+    let one : 3 * suc i + 1 ≡ suc (suc (suc (3 * i + 1))) = omega arith in
+    let two : 3 * suc i + 2 ≡ suc (suc (suc (3 * i + 2))) = omega arith in
+    rw (one, two, next) (List·Memᴰ·tail (traced-at-in l i (omega arith)))

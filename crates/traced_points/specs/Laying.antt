@@ -4,14 +4,14 @@
 --   verdict r      == what the answer r of a check says
 --   Checks l r     == r is what the call's checks say of the list l: none refuses it, and the disk of the squares' corners is due; or it is refused so
 --   Boxed s        == the corners of the square of s lie in the em box
---   AllBoxed ss    == those of all squares do
---   Laid l m       == the numbers m have room for the corners of l's squares, eight numbers each
+--   Right s        == t and the square of s keep their rules
+--   Accepted l     == the rules for a list of traced points
 use mathlib.Core.Path.{_≡_}
 use mathlib.Core.Bool.{true}
 use mathlib.Core.List.{List, List·Memᴰ}
-use Prim.Native.Nat.{ℕ, _+_, _*_}
+use Prim.Native.Nat.{ℕ, _+_, _*_, _/_, _%_, _≤_}
 use lib.IntN.{ℤ, pos}
-use lib.ListN.{getD}
+use lib.ListN.{length, getD}
 use Rattle.answers.specs.Outcome.{Outcome, given, refused, numberOf}
 use Rattle.geometry.specs.EmBox.{allInEmBox}
 use Rattle.disks.specs.Procedure.{diskOf}
@@ -19,7 +19,7 @@ use Rattle.engine.specs.declared.Checked.{Checked}
 use Rattle.engine.specs.declared.Checked.the-variants.{Passed, Refused}
 use Rattle.tracings.specs.declared.TracedPoint.{TracedPoint}
 use Rattle.tracings.specs.Squares.{corners, allCorners}
-use Rattle.traced_points.specs.Traced.{traced, tracedOf}
+use Rattle.traced_points.specs.Traced.{traced, tolerated, tracedOf}
 
 abbrev pub tracedAt : List ℤ → ℕ → TracedPoint
 tracedAt l i = record { x = getD l (3 * i) (pos 0); y = getD l (3 * i + 1) (pos 0); t = getD l (3 * i + 2) (pos 0) }
@@ -35,5 +35,12 @@ Checks l (Refused r) = tracedOf l ≡ refused (numberOf r)
 abbrev pub Boxed : TracedPoint → Type 0
 Boxed s = allInEmBox (corners s) ≡ true
 
-abbrev pub AllBoxed : List TracedPoint → Type 0
-AllBoxed ss = (s : TracedPoint) → List·Memᴰ s ss → Boxed s
+pub record Right (s : TracedPoint) : Type 0 where
+  pub range : tolerated s ≡ true
+  pub boxed : Boxed s
+
+pub record Accepted (l : List ℤ) : Type 0 where
+  pub threes : length l % 3 ≡ 0
+  pub some : length l ≡ 0 → ⊥
+  pub few : length l / 3 ≤ 1024
+  pub each : (s : TracedPoint) → List·Memᴰ s (traced l) → Right s

@@ -5,22 +5,21 @@
 use answers::Refusal;
 use engine::Checked;
 use geometry::Disk;
-use geometry::Limits;
 use geometry::Point;
 use tracings::TracedPoint;
 ghost use mathlib.Core.Path.{_≡_};
 ghost use mathlib.Core.Bool.{true};
 ghost use mathlib.Core.List.{_++_};
 ghost use Prim.Native.Nat.{_+_, _*_, _/_, _%_, _≤_};
-ghost use lib.IntN.{pos};
+ghost use lib.IntN.{pos, _+ℤ_, _-ℤ_};
 ghost use lib.ListN.{length};
-ghost use Rattle.integers.specs.Order.{_≼_};
+ghost use Rattle.integers.specs.Order.{_≼_, between, Within};
 ghost use Rattle.geometry.specs.EmBox.{allInEmBox};
 ghost use Rattle.geometry.specs.Points.{points, firstPoints};
 ghost use Rattle.disks.specs.Procedure.{diskOf};
 ghost use Rattle.tracings.specs.Squares.{corners, allCorners};
 ghost use Rattle.traced_points.specs.Traced.{traced, tolerated, fault, firstFault, outcome, tracedOf};
-ghost use Rattle.traced_points.specs.Laying.{tracedAt, verdict, Checks, Boxed, AllBoxed};
+ghost use Rattle.traced_points.specs.Laying.{tracedAt, verdict, Checks, Boxed, Accepted};
 
 pub enum Traced {
     Found(Disk),
@@ -45,24 +44,24 @@ fn is_tolerated(s: TracedPoint) -> bool
     integers::is_between(0, geometry::wide(s.t), 50)
 }
 
+// Whether z - t and z + t are both from low to high.
+fn has_room(low: i64, z: i16, t: i16, high: i64) -> bool
+    requires { ⌜ Within 32768 low × Within 32768 high ⌝ }
+    ensures { λ r. ⌜ r ≡ between (low +ℤ t) z (high -ℤ t) ⌝ }
+{
+    let w = geometry::wide(t);
+    integers::is_between(low + w, geometry::wide(z), high - w)
+}
+
 // Whether the square of s lies in the em box: its middle then lies in the box that is narrower by t on each side.
 fn is_boxed(s: TracedPoint) -> bool
     requires { ⌜ pos 0 ≼ s .t ⌝ }
     ensures { λ r. ⌜ r ≡ allInEmBox (corners s) ⌝ }
 {
-    let em = geometry::em_limits();
-    let t = geometry::wide(s.t);
-    let narrower = Limits {
-        left: em.left + t,
-        right: em.right - t,
-        foot: em.foot + t,
-        top: em.top - t,
-        scale: em.scale,
-        square: em.square,
-    };
-    let x = s.x;
-    let y = s.y;
-    geometry::in_box(narrower, Point { x, y })
+    if has_room(geometry::LEFT, s.x, s.t, geometry::RIGHT) {
+        return has_room(geometry::FOOT, s.y, s.t, geometry::TOP);
+    }
+    false
 }
 
 // The rules of one traced point.
@@ -116,10 +115,13 @@ fn put_corners(room: &mut [i16], i: usize, s: TracedPoint)
     requires { ⌜ 8 * i + 8 ≤ length (now room) ⌝ ∗ ⌜ Boxed s ⌝ }
     ensures { λ _. ⌜ firstPoints (4 * (i + 1)) (now (room .exit)) ≡ firstPoints (4 * i) (now (room .entry)) ++ corners s ⌝ }
 {
-    let left = s.x - s.t;
-    let right = s.x + s.t;
-    let low = s.y - s.t;
-    let high = s.y + s.t;
+    let x = s.x;
+    let y = s.y;
+    let t = s.t;
+    let left = x - t;
+    let right = x + t;
+    let low = y - t;
+    let high = y + t;
     let j = 4 * i;
     point_lists::put_point(room, j, Point { x: left, y: low });
     point_lists::put_point(room, j + 1, Point { x: left, y: high });
@@ -129,13 +131,23 @@ fn put_corners(room: &mut [i16], i: usize, s: TracedPoint)
 
 // Writes the corners of all squares.
 fn lay_out(list: &[i16], room: &mut [i16])
-    requires { ⌜ length (now list) % 3 ≡ 0 ⌝ ∗ ⌜ AllBoxed (traced (now list)) ⌝ ∗ ⌜ length (now room) ≡ 8 * (length (now list) / 3) ⌝ }
+    requires { ⌜ Accepted (now list) ⌝ ∗ ⌜ length (now room) ≡ 8 * (length (now list) / 3) ⌝ }
     ensures { λ _. ⌜ points (now (room .exit)) ≡ allCorners (traced (now (list .entry))) ⌝ }
 {
     let n = list.len() / 3;
     for i in 0..n {
         put_corners(room, i, traced_at(list, i));
     }
+}
+
+// The disk of the corners of all squares, with room lent for them.
+fn solve(list: &[i16], room: &mut [i16]) -> Disk
+    requires { ⌜ Accepted (now list) ⌝ ∗ ⌜ length (now room) ≡ 8 * (length (now list) / 3) ⌝ }
+    ensures { λ r. ⌜ r ≡ diskOf (allCorners (traced (now (list .entry)))) ⌝ }
+{
+    lay_out(list, room);
+    let run = welzl::smallest(room);
+    run.disk
 }
 
 // The smallest disk that holds the list's points wherever they may really be. The list is only read.
@@ -148,9 +160,8 @@ pub fn smallest_disk_of_traced(list: &[i16]) -> Traced
         Checked::Passed => {
             let mut room = [0i16; 8192];
             let m = 8 * (list.len() / 3);
-            lay_out(list, &mut room[..m]);
-            let run = welzl::smallest(&mut room[..m]);
-            Traced::Found(run.disk)
+            let disk = solve(list, &mut room[..m]);
+            Traced::Found(disk)
         }
     }
 }
