@@ -20,9 +20,9 @@ use Rattle.geometry.specs.declared.Disk.{Disk}
 use Rattle.geometry.specs.EmBox.{allInEmBox}
 use Rattle.disks.specs.Procedure.{diskOf}
 use Rattle.tracings.specs.declared.TracedPoint.{TracedPoint}
-use Rattle.tracings.specs.Squares.{corners, allCorners}
-use Rattle.traced_points.specs.Traced.{traced, tolerated, fault, firstFault, tracedOf}
-use Rattle.traced_points.specs.Laying.{Right, Accepted}
+use Rattle.tracings.specs.Squares.{traced, corners, allCorners}
+use Rattle.traced_points.specs.Traced.{tolerated, fault, firstFault, tracedOf}
+use Rattle.traced_points.specs.Checks.{Right, Accepted}
 
 -- ---- one traced point
 

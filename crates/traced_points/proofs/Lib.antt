@@ -1,5 +1,4 @@
 -- Laws; the proofs of the functions are in the folders of their names.
-pub mod Threes
 pub mod Narrower
 pub mod Checks
-pub mod FourCorners
+pub mod Laid

@@ -1,3 +1,3 @@
 pub mod Traced
 -- of inner contracts
-pub mod Laying
+pub mod Checks

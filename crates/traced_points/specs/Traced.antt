@@ -1,6 +1,5 @@
 -- The smallest disk over all possible tracings of a list of traced points (02, item 7: hand-traced letters).
 --
---   traced l      == the traced points of the list l, x, y and t by turns
 --   tolerated s   == t is from 0 to 50
 --   fault s       == what the rules say of one traced point: 14 for its t, then 3 for a square that leaves the em box
 --   firstFault ss == the refusal of the first faulty one
@@ -20,15 +19,9 @@ use Rattle.geometry.specs.declared.Disk.{Disk}
 use Rattle.geometry.specs.EmBox.{allInEmBox}
 use Rattle.disks.specs.Procedure.{diskOf}
 use Rattle.tracings.specs.declared.TracedPoint.{TracedPoint}
-use Rattle.tracings.specs.Squares.{corners, allCorners}
+use Rattle.tracings.specs.Squares.{traced, corners, allCorners}
 use Rattle.traced_points.specs.declared.Traced.{Traced}
 use Rattle.traced_points.specs.declared.Traced.the-variants.{Found, Refused}
-
-unfoldable pub traced : List ℤ → List TracedPoint
-traced [] = []
-traced (x ∷ []) = []
-traced (x ∷ y ∷ []) = []
-traced (x ∷ y ∷ t ∷ l) = record { x = x; y = y; t = t } ∷ traced l
 
 abbrev pub tolerated : TracedPoint → Bool
 tolerated s = between (pos 0) (s .t) (pos 50)

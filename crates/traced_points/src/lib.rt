@@ -5,36 +5,21 @@
 use answers::Refusal;
 use engine::Checked;
 use geometry::Disk;
-use geometry::Point;
 use tracings::TracedPoint;
 ghost use mathlib.Core.Path.{_≡_};
-ghost use mathlib.Core.Bool.{true};
-ghost use mathlib.Core.List.{_++_};
-ghost use Prim.Native.Nat.{_+_, _*_, _/_, _%_, _≤_};
+ghost use Prim.Native.Nat.{_*_, _/_, _%_};
 ghost use lib.IntN.{pos, _+ℤ_, _-ℤ_};
 ghost use lib.ListN.{length};
 ghost use Rattle.integers.specs.Order.{_≼_, between, Within};
 ghost use Rattle.geometry.specs.EmBox.{allInEmBox};
-ghost use Rattle.geometry.specs.Points.{points, firstPoints};
 ghost use Rattle.disks.specs.Procedure.{diskOf};
-ghost use Rattle.tracings.specs.Squares.{corners, allCorners};
-ghost use Rattle.traced_points.specs.Traced.{traced, tolerated, fault, firstFault, outcome, tracedOf};
-ghost use Rattle.traced_points.specs.Laying.{tracedAt, verdict, Checks, Boxed, Accepted};
+ghost use Rattle.tracings.specs.Squares.{traced, corners, allCorners};
+ghost use Rattle.traced_points.specs.Traced.{tolerated, fault, firstFault, outcome, tracedOf};
+ghost use Rattle.traced_points.specs.Checks.{verdict, Checks, Accepted};
 
 pub enum Traced {
     Found(Disk),
     Refused(Refusal),
-}
-
-// Traced point i of the list.
-fn traced_at(list: &[i16], i: usize) -> TracedPoint
-    requires { ⌜ 3 * i + 3 ≤ length (now list) ⌝ }
-    ensures { λ r. ⌜ r ≡ tracedAt (now (list .entry)) i ⌝ }
-{
-    let x = list[3 * i];
-    let y = list[3 * i + 1];
-    let t = list[3 * i + 2];
-    TracedPoint { x, y, t }
 }
 
 // Whether t is from 0 to 50.
@@ -84,7 +69,7 @@ fn check_points(list: &[i16]) -> Checked
 {
     let n = list.len() / 3;
     for i in 0..n {
-        match check_point(traced_at(list, i)) {
+        match check_point(square_corners::traced_at(list, i)) {
             Checked::Passed => {}
             Checked::Refused(r) => {
                 return Checked::Refused(r);
@@ -110,42 +95,12 @@ fn check(list: &[i16]) -> Checked
     check_points(list)
 }
 
-// Writes the corners of the square of s as points 4i to 4i + 3.
-fn put_corners(room: &mut [i16], i: usize, s: TracedPoint)
-    requires { ⌜ 8 * i + 8 ≤ length (now room) ⌝ ∗ ⌜ Boxed s ⌝ }
-    ensures { λ _. ⌜ firstPoints (4 * (i + 1)) (now (room .exit)) ≡ firstPoints (4 * i) (now (room .entry)) ++ corners s ⌝ }
-{
-    let x = s.x;
-    let y = s.y;
-    let t = s.t;
-    let left = x - t;
-    let right = x + t;
-    let low = y - t;
-    let high = y + t;
-    let j = 4 * i;
-    point_lists::put_point(room, j, Point { x: left, y: low });
-    point_lists::put_point(room, j + 1, Point { x: left, y: high });
-    point_lists::put_point(room, j + 2, Point { x: right, y: low });
-    point_lists::put_point(room, j + 3, Point { x: right, y: high });
-}
-
-// Writes the corners of all squares.
-fn lay_out(list: &[i16], room: &mut [i16])
-    requires { ⌜ Accepted (now list) ⌝ ∗ ⌜ length (now room) ≡ 8 * (length (now list) / 3) ⌝ }
-    ensures { λ _. ⌜ points (now (room .exit)) ≡ allCorners (traced (now (list .entry))) ⌝ }
-{
-    let n = list.len() / 3;
-    for i in 0..n {
-        put_corners(room, i, traced_at(list, i));
-    }
-}
-
 // The disk of the corners of all squares, with room lent for them.
 fn solve(list: &[i16], room: &mut [i16]) -> Disk
     requires { ⌜ Accepted (now list) ⌝ ∗ ⌜ length (now room) ≡ 8 * (length (now list) / 3) ⌝ }
     ensures { λ r. ⌜ r ≡ diskOf (allCorners (traced (now (list .entry)))) ⌝ }
 {
-    lay_out(list, room);
+    square_corners::lay_out(list, room);
     let run = welzl::smallest(room);
     run.disk
 }

@@ -7,6 +7,7 @@ ghost use Rattle.sheet.specs.Sheet.{glyphOf};
 ghost use Rattle.engine.specs.Engine as engine;
 ghost use Rattle.chosen_points.specs.declared.Chosen.the-variants.{Two};
 ghost use Rattle.chosen_points.specs.Chosen.{throughOf};
+ghost use Rattle.traced_points.specs.Traced.{tracedOf};
 ghost use Rattle.radius.specs.Radius.{radiusOf};
 ghost use Rattle.record_writer.specs.Writing as writer;
 ghost use Rattle.record_reader.specs.Reading.{readOf};
@@ -75,6 +76,14 @@ pub extern "C" fn volkhidar_smallest_disk_through(
     ensures { λ _. ⌜ now (list .exit) ≡ now (list .entry) ⌝ }
 {
     c_through::smallest_disk_through(list, first, second)
+}
+
+#[no_mangle]
+pub extern "C" fn volkhidar_smallest_disk_of_traced(list: &[i16]) -> ThroughAnswer
+    ensures { λ r. ⌜ r ≡ throughAnswer (tracedOf (now (list .entry))) ⌝ }
+    ensures { λ _. ⌜ now (list .exit) ≡ now (list .entry) ⌝ }
+{
+    c_traced::smallest_disk_of_traced(list)
 }
 
 #[no_mangle]

@@ -8,8 +8,9 @@ use lib.ListN.{length}
 use mathlib.Core.Path.{_≡_}
 use Rattle.engine.specs.declared.Checked.{Checked}
 use Rattle.engine.specs.declared.Checked.the-variants.{Passed, Refused}
-use Rattle.traced_points.specs.Traced.{traced, firstFault}
-use Rattle.traced_points.specs.Laying.{verdict, Checks}
+use Rattle.tracings.specs.Squares.{traced}
+use Rattle.traced_points.specs.Traced.{firstFault}
+use Rattle.traced_points.specs.Checks.{verdict, Checks}
 use Rattle.traced_points.proofs.Checks.{refused-threes, refused-empty, refused-long, refused-fault, accepted}
 use Rattle.traced_points.proofs.check.Statement.{statement}
 use Rattle.traced_points.proofs.check.Tie as tie

@@ -5,9 +5,11 @@ use native.Mathlib.Omega.{arith}
 use lib.ListN.{length, drop}
 use borrow.Author.Needs.{needs}
 use Rattle.answers.specs.Outcome.{given}
-use Rattle.traced_points.specs.Traced.{traced, fault, firstFault}
-use Rattle.traced_points.specs.Laying.{tracedAt, verdict}
-use Rattle.traced_points.proofs.Threes.{traced-from, traced-end}
+use Rattle.tracings.specs.Squares.{traced}
+use Rattle.square_corners.specs.Laying.{tracedAt}
+use Rattle.traced_points.specs.Traced.{fault, firstFault}
+use Rattle.traced_points.specs.Checks.{verdict}
+use Rattle.square_corners.proofs.Threes.{traced-from, traced-end}
 use Rattle.traced_points.proofs.Checks.{fault-here, fault-past, fault-end}
 use Rattle.traced_points.proofs.check_points.Statement.{statement}
 use Rattle.traced_points.proofs.check_points.Tie as tie

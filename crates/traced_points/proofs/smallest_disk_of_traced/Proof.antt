@@ -9,9 +9,9 @@ use lib.IntN.{ℤ}
 use lib.Seq.{length-take-le}
 use Rattle.answers.specs.Outcome.{given}
 use Rattle.disks.specs.Procedure.{diskOf}
-use Rattle.tracings.specs.Squares.{allCorners}
-use Rattle.traced_points.specs.Traced.{traced, tracedOf}
-use Rattle.traced_points.specs.Laying.{Checks, Accepted}
+use Rattle.tracings.specs.Squares.{traced, allCorners}
+use Rattle.traced_points.specs.Traced.{tracedOf}
+use Rattle.traced_points.specs.Checks.{Checks, Accepted}
 use Rattle.traced_points.proofs.Checks.{accepted-list}
 use Rattle.traced_points.proofs.smallest_disk_of_traced.Statement.{statement}
 use Rattle.traced_points.proofs.smallest_disk_of_traced.Tie as tie

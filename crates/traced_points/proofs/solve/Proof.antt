@@ -2,12 +2,14 @@
 use mathlib.Core.Path.{ap, _∙_}
 use borrow.Author.Needs.{needs}
 use Rattle.disks.specs.Procedure.{diskOf}
-use Rattle.traced_points.proofs.FourCorners.{laid-given}
+use Rattle.traced_points.proofs.Laid.{laid-given}
 use Rattle.traced_points.proofs.solve.Statement.{statement}
 use Rattle.traced_points.proofs.solve.Tie as tie
 
 lay-out-requires : tie.Need-lay-out-requires
-lay-out-requires c κs = search needs
+lay-out-requires c κs =
+    let start = c .before in
+    (start .pre .0 .threes, ((λ s i. start .pre .0 .each s i .boxed), start .pre .1))
 
 smallest-requires : tie.Need-smallest-requires
 smallest-requires c κs =

@@ -1,4 +1,4 @@
--- `traced_points::put_corners` meets its contract: the coordinates of a square in the em box fit 16 bits, and its corners stand one behind another.
+-- `square_corners::put_corners` meets its contract: the coordinates of a square in the em box fit 16 bits, and its corners stand one behind another.
 use mathlib.Core.Path.{_≡_, ap, _∙_}
 use Prim.Native.Nat.{ℕ, _+_, _*_}
 use native.Mathlib.Omega.{arith}
@@ -11,9 +11,9 @@ use Rattle.geometry.specs.Points.{firstPoints}
 use Rattle.point_lists.specs.Put.{putAt}
 use Rattle.tracings.specs.declared.TracedPoint.{TracedPoint}
 use Rattle.tracings.specs.Squares.{corners}
-use Rattle.traced_points.proofs.FourCorners.{four-put, minus-value, plus-value, low-corner, high-corner}
-use Rattle.traced_points.proofs.put_corners.Statement.{statement}
-use Rattle.traced_points.proofs.put_corners.Tie as tie
+use Rattle.square_corners.proofs.FourCorners.{four-put, minus-value, plus-value, low-corner, high-corner}
+use Rattle.square_corners.proofs.put_corners.Statement.{statement}
+use Rattle.square_corners.proofs.put_corners.Tie as tie
 
 -- x and t, y and t as the machine has them, and the four coordinates
 module _ (c : tie.After-struct-told3) where

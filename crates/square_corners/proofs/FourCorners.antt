@@ -1,14 +1,13 @@
--- The four corners of a square, written as points one behind another; and those of all squares, as a list for the procedure.
+-- The four corners of a square, written as points one behind another.
 --
 --   four-put       : four points written behind the first j
 --   minus-value, plus-value : a coordinate of a corner, as the machine works it out
 --   low-corner, high-corner : two opposite corners of a square in the em box have small coordinates
---   laid-given     : the corners of all squares are a list that the procedure takes
+--   corners-boxed  : the corners of all squares lie in the em box where those of each do
 use mathlib.Core.Path.{_≡_, refl, ap, ap₂, _∙_}
 use mathlib.Core.Logic.{inl, inr}
-use mathlib.Core.Bool.{true}
-use mathlib.Core.List.{List, [], _∷_, _++_, List·Memᴰ, List·Memᴰ·head, List·Memᴰ·tail, List·Memᴰ·not-nil, List·Memᴰ·append-cases}
-use Prim.Native.Nat.{ℕ, zero, suc, _+_, _*_, _/_, _≤_}
+use mathlib.Core.List.{List, [], _∷_, _++_, List·Memᴰ·head, List·Memᴰ·tail, List·Memᴰ·not-nil, List·Memᴰ·append-cases}
+use Prim.Native.Nat.{ℕ, _+_, _*_, _≤_}
 use native.Mathlib.Omega.{arith}
 use lib.Dec.{T}
 use lib.IntN.{ℤ, natAbs, _+ℤ_, _-ℤ_}
@@ -19,17 +18,15 @@ use mir.Facts.{toZ-ofZ}
 use Rattle.integers.proofs.Bounds.{Value, v-eq, v-abs}
 use Rattle.integers.proofs.Tests.{test-true}
 use Rattle.geometry.specs.declared.Point.{Point}
-use Rattle.geometry.specs.EmBox.{em, largest, inEmBox, allInEmBox}
-use Rattle.geometry.specs.Points.{points, firstPoints}
-use Rattle.geometry.proofs.EmBox.{point-size, box-members, members-box}
+use Rattle.geometry.specs.EmBox.{em, largest, inEmBox}
+use Rattle.geometry.specs.Points.{firstPoints}
+use Rattle.geometry.proofs.EmBox.{point-size, box-members}
 use Rattle.point_lists.specs.Sets.{In}
 use Rattle.point_lists.specs.Put.{putAt}
 use Rattle.point_lists.proofs.Put.{length-put, firstPoints-put}
 use Rattle.tracings.specs.declared.TracedPoint.{TracedPoint}
-use Rattle.welzl.specs.WholeList.{AllGiven}
 use Rattle.tracings.specs.Squares.{corners, allCorners}
-use Rattle.traced_points.specs.Traced.{traced}
-use Rattle.traced_points.specs.Laying.{Boxed, Accepted}
+use Rattle.square_corners.specs.Laying.{Boxed, AllBoxed}
 
 one-put : (l m : List ℤ) (n k : ℕ) (p : Point) → k ≡ n + 1 → m ≡ putAt l n p → 2 * n + 2 ≤ length l → firstPoints k m ≡ firstPoints n l ++ (p ∷ [])
 one-put l m n k p e q h = ap₂ firstPoints e q ∙ firstPoints-put l n p h
@@ -77,25 +74,10 @@ module _ (s : TracedPoint) (h : Boxed s) where
 
 -- ---- all corners
 
-pub corners-boxed : (ss : List TracedPoint) → ((s : TracedPoint) → List·Memᴰ s ss → Boxed s) → (p : Point) → In p (allCorners ss) → T (inEmBox p)
+pub corners-boxed : (ss : List TracedPoint) → AllBoxed ss → (p : Point) → In p (allCorners ss) → T (inEmBox p)
 unfolding allCorners
 corners-boxed [] f p i = absurd (List·Memᴰ·not-nil i)
 corners-boxed (s ∷ ss) f p i = elim (List·Memᴰ·append-cases (corners s) i) [
   | inl k ↦ box-members (corners s) (f s (List·Memᴰ·head refl)) p k
   | inr k ↦ corners-boxed ss (λ r m. f r (List·Memᴰ·tail m)) p k
 ]
-
-pub all-boxed : (l : List ℤ) → Accepted l → allInEmBox (allCorners (traced l)) ≡ true
-all-boxed l a = members-box (allCorners (traced l)) (corners-boxed (traced l) (λ s i. a .each s i .boxed))
-
-some-length : (n : ℕ) → (n ≡ 0 → ⊥) → 1 ≤ n
-some-length zero f = absurd (f refl)
-some-length (suc n) f = omega arith
-
-pub laid-given : (l m : List ℤ) → Accepted l → length m ≡ 8 * (length l / 3) → points m ≡ allCorners (traced l) → AllGiven m
-laid-given l m a h e = let some = some-length (length l) (a .some) in record {
-  even = omega arith;
-  some = omega (arith, some, a .threes);
-  few = omega (arith, a .few);
-  boxed = ap allInEmBox e ∙ all-boxed l a;
-}

@@ -13,8 +13,8 @@ use lib.IntN.{ℤ, pos}
 use lib.ListN.{length, getD, drop, drop-of-length-le}
 use lib.Seq.{drop-cons}
 use Rattle.tracings.specs.declared.TracedPoint.{TracedPoint}
-use Rattle.traced_points.specs.Traced.{traced}
-use Rattle.traced_points.specs.Laying.{tracedAt}
+use Rattle.tracings.specs.Squares.{traced}
+use Rattle.square_corners.specs.Laying.{tracedAt}
 
 pub length-traced : (l : List ℤ) → length l % 3 ≡ 0 → length l ≡ 3 * length (traced l)
 unfolding traced

@@ -1,28 +1,23 @@
 -- What the parts of the call ask and promise.
 --
---   tracedAt l i   == traced point i of the list l, from 0
 --   verdict r      == what the answer r of a check says
 --   Checks l r     == r is what the call's checks say of the list l: none refuses it, and the disk of the squares' corners is due; or it is refused so
---   Boxed s        == the corners of the square of s lie in the em box
 --   Right s        == t and the square of s keep their rules
 --   Accepted l     == the rules for a list of traced points
 use mathlib.Core.Path.{_≡_}
 use mathlib.Core.Bool.{true}
 use mathlib.Core.List.{List, List·Memᴰ}
-use Prim.Native.Nat.{ℕ, _+_, _*_, _/_, _%_, _≤_}
-use lib.IntN.{ℤ, pos}
-use lib.ListN.{length, getD}
+use Prim.Native.Nat.{_/_, _%_, _≤_}
+use lib.IntN.{ℤ}
+use lib.ListN.{length}
 use Rattle.answers.specs.Outcome.{Outcome, given, refused, numberOf}
-use Rattle.geometry.specs.EmBox.{allInEmBox}
 use Rattle.disks.specs.Procedure.{diskOf}
 use Rattle.engine.specs.declared.Checked.{Checked}
 use Rattle.engine.specs.declared.Checked.the-variants.{Passed, Refused}
 use Rattle.tracings.specs.declared.TracedPoint.{TracedPoint}
-use Rattle.tracings.specs.Squares.{corners, allCorners}
-use Rattle.traced_points.specs.Traced.{traced, tolerated, tracedOf}
-
-abbrev pub tracedAt : List ℤ → ℕ → TracedPoint
-tracedAt l i = record { x = getD l (3 * i) (pos 0); y = getD l (3 * i + 1) (pos 0); t = getD l (3 * i + 2) (pos 0) }
+use Rattle.tracings.specs.Squares.{traced, allCorners}
+use Rattle.square_corners.specs.Laying.{Boxed}
+use Rattle.traced_points.specs.Traced.{tolerated, tracedOf}
 
 abbrev pub verdict : Checked → Outcome (Unit {0})
 verdict Passed = given tt
@@ -31,9 +26,6 @@ verdict (Refused r) = refused (numberOf r)
 abbrev pub Checks : List ℤ → Checked → Type 0
 Checks l Passed = tracedOf l ≡ given (diskOf (allCorners (traced l)))
 Checks l (Refused r) = tracedOf l ≡ refused (numberOf r)
-
-abbrev pub Boxed : TracedPoint → Type 0
-Boxed s = allInEmBox (corners s) ≡ true
 
 pub record Right (s : TracedPoint) : Type 0 where
   pub range : tolerated s ≡ true

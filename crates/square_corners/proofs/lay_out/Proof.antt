@@ -1,4 +1,4 @@
--- `traced_points::lay_out` meets its contract. The loop's invariant: what was laid out and the corners of the squares from i on are all corners.
+-- `square_corners::lay_out` meets its contract. The loop's invariant: what was laid out and the corners of the squares from i on are all corners.
 use mathlib.Core.Path.{_≡_, refl, sym, ap, subst, _∙_}
 use mathlib.Core.List.{List, [], _∷_, _++_, append-assoc, append-nil, List·Memᴰ, List·Memᴰ·head, Memᴰ·append-right}
 use Prim.Native.Nat.{ℕ, _+_, _-_, _*_, _≤_}
@@ -10,12 +10,11 @@ use Rattle.geometry.specs.declared.Point.{Point}
 use Rattle.geometry.specs.Points.{points, firstPoints}
 use Rattle.geometry.proofs.PointLists.{firstPoints-all}
 use Rattle.tracings.specs.declared.TracedPoint.{TracedPoint}
-use Rattle.tracings.specs.Squares.{corners, allCorners}
-use Rattle.traced_points.specs.Traced.{traced}
-use Rattle.traced_points.specs.Laying.{tracedAt}
-use Rattle.traced_points.proofs.Threes.{traced-from, traced-end, traced-at-in}
-use Rattle.traced_points.proofs.lay_out.Statement.{statement}
-use Rattle.traced_points.proofs.lay_out.Tie as tie
+use Rattle.tracings.specs.Squares.{traced, corners, allCorners}
+use Rattle.square_corners.specs.Laying.{tracedAt}
+use Rattle.square_corners.proofs.Threes.{traced-from, traced-end, traced-at-in}
+use Rattle.square_corners.proofs.lay_out.Statement.{statement}
+use Rattle.square_corners.proofs.lay_out.Tie as tie
 
 abbrev Inv-loop : tie.InvT-loop
 Inv-loop list room₀ n i₀ room i =
@@ -39,7 +38,7 @@ corners-end l i h = ap allCorners (traced-end l i h)
 
 loop-holds : tie.Need-loop-holds Inv-loop μ-loop
 unfolding points
-loop-holds c = (omega arith, omega (arith, c .pre .0 .threes), omega (arith, c .pre .1), refl)
+loop-holds c = (omega arith, omega (arith, c .pre .0), omega (arith, c .pre .1 .1), refl)
 
 traced-at-requires : tie.Need-traced-at-requires Inv-loop μ-loop
 traced-at-requires c κs = omega arith
@@ -49,7 +48,7 @@ put-corners-requires c κs =
     let at = c .before .before .before in
     let l = at .before .args .list .now in
     let i = at .loop .i in
-    (omega arith, rw (c .traced-at .ensures) (at .before .pre .0 .each (tracedAt l i) (traced-at-in l i (omega arith)) .boxed))
+    (omega arith, rw (c .traced-at .ensures) (at .before .pre .1 .0 (tracedAt l i) (traced-at-in l i (omega arith))))
 
 add-i : tie.Need-add-i Inv-loop μ-loop
 add-i c = omega arith
