@@ -20,18 +20,19 @@
  *
  *                  1   description or sheet over 65,535 bytes
  *                  2   a line that is neither blank nor a point
- *                  3   a point outside the em box
- *                  4   more than 4,096 points
- *                  5   no point
+ *                  3   a point outside the em box; a traced point whose square leaves it
+ *                  4   more than 4,096 points, or 1,024 traced points
+ *                  5   no point or no traced point
  *                  6   sheet shorter than its directory, or its pairs break the rules
  *                  7   a record of another length than 45 bytes, with another count than its points have, or not valid;
  *                      a disk and support set that a valid record could not hold
  *                  8   a list under 8,192 numbers; a buffer under 45 bytes
- *                  9   a point list of odd length
+ *                  9   a point list of odd length; a list of traced points whose length is not a multiple of three
  *                 10   glyph number not below the count
  *                 11   a NaN, an infinity or a float with a fraction in a point's x or y
  *                 12   a chosen point that is not in the list
  *                 13   no disk holds the list with the chosen points on its boundary
+ *                 14   a tolerance t outside 0 to 50
  *
  * docs/FORMATS.md describes descriptions, sheets and records byte by byte.
  */
@@ -45,11 +46,13 @@
 extern "C" {
 #endif
 
-/* Lengths that the checks ask for. */
+/* Lengths and limits that the checks ask for. */
 #define VOLKHIDAR_MOST_BYTES 65535   /* of a description or a sheet */
 #define VOLKHIDAR_MOST_POINTS 4096   /* of a point list */
 #define VOLKHIDAR_LIST_LENGTH 8192   /* least length of the list that volkhidar_load and volkhidar_append_point are lent */
 #define VOLKHIDAR_RECORD_LENGTH 45   /* of a record, in bytes */
+#define VOLKHIDAR_MOST_TRACED 1024   /* traced points of a list */
+#define VOLKHIDAR_MOST_TOLERANCE 50  /* of a traced point, in units */
 
 /* A point of the em box: x from 0 to 1000, y from -250 to 750. */
 typedef struct {
@@ -113,6 +116,8 @@ typedef struct {
     volkhidar_disk disk;
 } volkhidar_through_answer;
 
+typedef volkhidar_through_answer volkhidar_traced_answer;
+
 typedef struct {
     uint64_t refusal;
     uint64_t radius;
@@ -168,6 +173,16 @@ volkhidar_disk_answer volkhidar_smallest_disk(int16_t *list, size_t list_length)
  * exactly where there is no such disk.
  */
 volkhidar_through_answer volkhidar_smallest_disk_through(const int16_t *list, size_t list_length, volkhidar_point first, volkhidar_point second);
+
+/*
+ * The smallest disk that holds every traced point of `list`, wherever each may really be. The list goes by threes, x, y and t: the point
+ * may be anywhere in the square from (x - t, y - t) to (x + t, y + t), at fractional places too, and t is its tolerance, 0 to 50
+ * units. The disk holds all of these squares: smallest of all disks with a fractional centre and squared radius that do, and no other
+ * is as small. With every t 0 it is the disk of volkhidar_smallest_disk. The list is only read. Only the disk is returned.
+ * Refusals, in this order: 9 for a length that is not a multiple of three, 5, 4 for more than 1,024 traced points; then the first
+ * faulty traced point, by 14, then 3 where its square leaves the em box.
+ */
+volkhidar_traced_answer volkhidar_smallest_disk_of_traced(const int16_t *list, size_t list_length);
 
 /*
  * The radius to cut with, a whole number: the least R with R^2 e^2 greater than s. The cut, the circle of radius R about the disk's

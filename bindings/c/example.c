@@ -1,6 +1,6 @@
 /*
  * The way of a letter through the library: a description is read, its smallest disk worked out, and a record written and read back.
- * Then the same letter from a drawing program's own values, and another letter's disk turned against a stop.
+ * Then the same letter from a drawing program's own values, another letter's disk turned against a stop, and a hand-traced letter.
  *
  *   bindings/c/run      builds and runs it on letter F of the papers
  *   bindings/c/run -    reads a description from standard input
@@ -89,11 +89,21 @@ static int work_out_against_stop(void) {
     return 0;
 }
 
+/* Letter F traced by hand, its points known to within 0, 1 and 2 units: the disk holds them wherever they may really be. */
+static int work_out_traced(void) {
+    const int16_t list[] = {0, 0, 0, 4, 0, 1, 2, 3, 2};
+    volkhidar_traced_answer answer = volkhidar_smallest_disk_of_traced(list, sizeof list / sizeof list[0]);
+    if (answer.refusal) return refused(answer.refusal);
+    print_disk(&answer.disk);
+    return 0;
+}
+
 int main(int argc, char **argv) {
     static uint8_t text[VOLKHIDAR_MOST_BYTES + 1];
     (void)argv;
     if (argc > 1) {
         return work_out(text, fread(text, 1, sizeof text, stdin));
     }
-    return work_out((const uint8_t *)letter_f, sizeof letter_f - 1) || work_out_drawing() || work_out_against_stop();
+    return work_out((const uint8_t *)letter_f, sizeof letter_f - 1) || work_out_drawing() || work_out_against_stop() ||
+           work_out_traced();
 }

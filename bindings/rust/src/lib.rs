@@ -47,6 +47,12 @@ pub const LIST_LENGTH: usize = 8_192;
 /// The bytes of a record.
 pub const RECORD_LENGTH: usize = 45;
 
+/// A list has at most this many traced points.
+pub const MOST_TRACED: usize = 1_024;
+
+/// A traced point has at most this tolerance, in units.
+pub const MOST_TOLERANCE: i16 = 50;
+
 /// Reads a description: a point a line, "x y" in decimal, each number of 1 to 4 digits with one plus, one minus or no sign before them.
 /// The points go to the front of the list in the order of the lines, x and y by turns, and the rest of the list stays; the answer is how
 /// many there are.
@@ -165,6 +171,38 @@ pub fn smallest_disk(list: &mut [i16]) -> Result<Enclosed, Refusal> {
 pub fn smallest_disk_through(list: &[i16], chosen: Chosen) -> Result<Disk, Refusal> {
     let (first, second) = chosen.pair();
     let answer = unsafe { raw::volkhidar_smallest_disk_through(list.as_ptr(), list.len(), first, second) };
+    checked(answer.refusal)?;
+    Ok(answer.disk)
+}
+
+/// The smallest disk that holds every traced point of the list, wherever each may really be. The list goes by threes, x, y and t: the
+/// point may be anywhere in the square from (x − t, y − t) to (x + t, y + t), at fractional places too, and t is its tolerance, 0 to
+/// [`MOST_TOLERANCE`] units. The disk holds all of these squares: smallest of all disks with a fractional centre and squared radius
+/// that do, and no other is as small. With every t 0 it is the disk of [`smallest_disk`]. The list is only read.
+///
+/// Refuses, in this order: [`Refusal::OddLength`] for a length that is not a multiple of three, [`Refusal::NoPoint`],
+/// [`Refusal::TooMany`] for more than [`MOST_TRACED`] traced points; the first faulty traced point, by [`Refusal::BadTolerance`],
+/// [`Refusal::OutsideBox`] where its square leaves the em box.
+///
+/// ```
+/// use volkhidar::{smallest_disk, smallest_disk_of_traced, Disk, Refusal};
+///
+/// // a square of side 6, and its corners are √18 away from its middle
+/// assert_eq!(smallest_disk_of_traced(&[5, 6, 3]), Ok(Disk { x: 5, y: 6, e: 1, s: 18 }));
+///
+/// // (0, 7) and the corners (5, 6) and (5, 8) of a square are on the boundary
+/// assert_eq!(smallest_disk_of_traced(&[0, 7, 0, 4, 7, 1]), Ok(Disk { x: 13, y: 35, e: 5, s: 169 }));
+///
+/// let plain = smallest_disk(&mut [0, 0, 4, 0, 2, 3])?.disk;
+/// assert_eq!(smallest_disk_of_traced(&[0, 0, 0, 4, 0, 0, 2, 3, 0]), Ok(plain));
+///
+/// assert_eq!(smallest_disk_of_traced(&[0, 0, 51]), Err(Refusal::BadTolerance));
+/// assert_eq!(smallest_disk_of_traced(&[0, 0, 50]), Err(Refusal::OutsideBox));
+/// assert_eq!(smallest_disk_of_traced(&[0, 0, 50, 0, 0, 51]), Err(Refusal::OutsideBox));
+/// # Ok::<(), Refusal>(())
+/// ```
+pub fn smallest_disk_of_traced(list: &[i16]) -> Result<Disk, Refusal> {
+    let answer = unsafe { raw::volkhidar_smallest_disk_of_traced(list.as_ptr(), list.len()) };
     checked(answer.refusal)?;
     Ok(answer.disk)
 }

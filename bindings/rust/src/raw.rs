@@ -88,6 +88,7 @@ extern "C" {
     pub fn volkhidar_glyph(sheet: *const u8, sheet_length: usize, k: usize) -> GlyphAnswer;
     pub fn volkhidar_smallest_disk(list: *mut i16, list_length: usize) -> DiskAnswer;
     pub fn volkhidar_smallest_disk_through(list: *const i16, list_length: usize, first: Point, second: Point) -> ThroughAnswer;
+    pub fn volkhidar_smallest_disk_of_traced(list: *const i16, list_length: usize) -> ThroughAnswer;
     pub fn volkhidar_whole_radius(disk: Disk, support: Support) -> RadiusAnswer;
     pub fn volkhidar_preview(disk: Disk, support: Support) -> PreviewAnswer;
     pub fn volkhidar_write_record(disk: Disk, support: Support, buffer: *mut u8, buffer_length: usize) -> u64;
@@ -150,6 +151,12 @@ mod tests {
         for (x, refusal) in [(7, 12), (2, 13)] {
             let chosen = Point { x, y: 0 };
             let answer = unsafe { volkhidar_smallest_disk_through(row.as_ptr(), row.len(), chosen, chosen) };
+            let Disk { x, y, e, s } = answer.disk;
+            assert_eq!((answer.refusal, x, y, e, s), (refusal, 0, 0, 0, 0));
+        }
+        let traced: [(&[i16], u64); 5] = [(&[7; 4], 9), (&[], 5), (&[7; 3_075], 4), (&[7, 7, 51], 14), (&[7, 7, 8], 3)];
+        for (list, refusal) in traced {
+            let answer = unsafe { volkhidar_smallest_disk_of_traced(list.as_ptr(), list.len()) };
             let Disk { x, y, e, s } = answer.disk;
             assert_eq!((answer.refusal, x, y, e, s), (refusal, 0, 0, 0, 0));
         }

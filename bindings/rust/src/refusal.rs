@@ -8,11 +8,11 @@ pub enum Refusal {
     TooLong = 1,
     /// A line that is neither blank nor a point.
     BadLine = 2,
-    /// A point outside the em box.
+    /// A point outside the em box; a traced point whose square leaves it.
     OutsideBox = 3,
-    /// More than 4,096 points.
+    /// More than 4,096 points, or 1,024 traced points.
     TooMany = 4,
-    /// No point.
+    /// No point or no traced point.
     NoPoint = 5,
     /// A sheet shorter than its directory, or whose pairs break the rules.
     BadSheet = 6,
@@ -21,7 +21,7 @@ pub enum Refusal {
     BadRecord = 7,
     /// A list under 8,192 numbers; a buffer under 45 bytes.
     NoRoom = 8,
-    /// A point list of odd length.
+    /// A point list of odd length; a list of traced points whose length is not a multiple of three.
     OddLength = 9,
     /// A glyph number not below the count.
     NoGlyph = 10,
@@ -31,10 +31,12 @@ pub enum Refusal {
     NotInList = 12,
     /// No disk holds the list with the chosen points on its boundary.
     NoDisk = 13,
+    /// A tolerance t outside 0 to 50.
+    BadTolerance = 14,
 }
 
 impl Refusal {
-    const ALL: [Refusal; 13] = [
+    const ALL: [Refusal; 14] = [
         Refusal::TooLong,
         Refusal::BadLine,
         Refusal::OutsideBox,
@@ -48,6 +50,7 @@ impl Refusal {
         Refusal::NotWhole,
         Refusal::NotInList,
         Refusal::NoDisk,
+        Refusal::BadTolerance,
     ];
 
     /// The number that the C interface and the listing program give it.
@@ -61,17 +64,18 @@ impl fmt::Display for Refusal {
         f.write_str(match self {
             Refusal::TooLong => "description or sheet over 65,535 bytes",
             Refusal::BadLine => "a line that is neither blank nor a point",
-            Refusal::OutsideBox => "a point outside the em box",
-            Refusal::TooMany => "more than 4,096 points",
-            Refusal::NoPoint => "no point",
+            Refusal::OutsideBox => "a point outside the em box, or a traced point whose square leaves it",
+            Refusal::TooMany => "more than 4,096 points, or 1,024 traced points",
+            Refusal::NoPoint => "no point or no traced point",
             Refusal::BadSheet => "sheet shorter than its directory, or its pairs break the rules",
             Refusal::BadRecord => "a record, or a disk and support set, that is not valid",
             Refusal::NoRoom => "the list or buffer is too short",
-            Refusal::OddLength => "a point list of odd length",
+            Refusal::OddLength => "a point list of odd length, or one of traced points whose length is not a multiple of three",
             Refusal::NoGlyph => "glyph number not below the count",
             Refusal::NotWhole => "a NaN, an infinity or a float with a fraction in a point's x or y",
             Refusal::NotInList => "a chosen point that is not in the list",
             Refusal::NoDisk => "no disk holds the list with the chosen points on its boundary",
+            Refusal::BadTolerance => "a tolerance t outside 0 to 50",
         })
     }
 }
@@ -83,5 +87,18 @@ pub(crate) fn checked(number: u64) -> Result<(), Refusal> {
     match number {
         0 => Ok(()),
         n => Err(Refusal::ALL[n as usize - 1]),
+    }
+}
+
+#[cfg(test)]
+mod tests {
+    use super::*;
+
+    #[test]
+    fn numbers_go_round() {
+        assert_eq!(checked(0), Ok(()));
+        for number in 1..=14 {
+            assert_eq!(checked(number).map_err(|refusal| u64::from(refusal.number())), Err(number));
+        }
     }
 }

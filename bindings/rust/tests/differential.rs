@@ -7,7 +7,9 @@ use reference::drawing;
 use reference::engine::{flat, points_of, solve};
 use reference::geometry::{Disk as ExpectedDisk, Point as ExpectedPoint};
 use reference::inputs::AppendCase;
+use reference::limits::{FOOT, LEFT, RIGHT, TOP};
 use reference::random::Random;
+use reference::traced;
 use reference::{description, edges, figures, letters, lists, record, refusal, sheet};
 use volkhidar::*;
 
@@ -157,6 +159,71 @@ fn compare_chosen(list: &[i16], chosen: chosen::Chosen, name: &str) {
         let (disk, support) = lent(&expected, &set).unwrap();
         compare_figures(disk, support, name);
         compare_writer(disk, support, 60, name);
+    }
+}
+
+/// The disk of traced points, with the list unchanged; then radius, preview and record of it with a point as its set, for it keeps to a
+/// record's limits. Answers the number of the refusal, or 0.
+fn compare_traced(list: &[i16], name: &str) -> u8 {
+    let read = list.to_vec();
+    let found = ours(smallest_disk_of_traced(&read));
+    assert_eq!(found.map(disk_of), number(traced::smallest_disk_of_traced(list)), "{name}");
+    assert_eq!(read, list, "the list: {name}");
+    if let Ok(disk) = found {
+        let support = SupportSet::One(Point { x: list[0], y: list[1] });
+        assert!(whole_radius(disk, support).is_ok(), "limits: {name}");
+        compare_figures(disk, support, name);
+        compare_writer(disk, support, 60, name);
+    }
+    found.err().unwrap_or(0)
+}
+
+/// The points of a list by threes, each with t 0, lead to the answer of the points alone.
+fn compare_without_tolerances(list: &[i16], name: &str) {
+    let zeros: Vec<i16> = list.chunks_exact(3).flat_map(|three| [three[0], three[1], 0]).collect();
+    let mut alone: Vec<i16> = list.chunks_exact(3).flat_map(|three| [three[0], three[1]]).collect();
+    let plain = smallest_disk(&mut alone).map(|found| found.disk);
+    assert_eq!(smallest_disk_of_traced(&zeros), plain, "every t 0: {name}");
+}
+
+/// Points of any kind with tolerances that are all 0, all equal or each its own. Those whose squares would leave the em box are moved
+/// until these touch its edges. In three cases of ten the list is then damaged.
+fn drawn_traced(longest: usize, random: &mut Random) -> Vec<i16> {
+    let n = 1 + random.below(longest);
+    let points = lists::draw(random.pick(&lists::KINDS), n, random);
+    let common = match random.below(5) {
+        0 => Some(0),
+        1 => Some(MOST_TOLERANCE),
+        2 => Some(random.coordinate(1, 49)),
+        _ => None,
+    };
+    let mut list = Vec::with_capacity(3 * n);
+    for p in points {
+        let t = common.unwrap_or_else(|| random.coordinate(0, MOST_TOLERANCE));
+        list.extend([p.x.clamp(LEFT + t, RIGHT - t), p.y.clamp(FOOT + t, TOP - t), t]);
+    }
+    if random.chance(30) {
+        damage_traced(&mut list, random);
+    }
+    list
+}
+
+/// One to three points are made faulty, and at times the list is cut, goes on or is empty.
+fn damage_traced(list: &mut Vec<i16>, random: &mut Random) {
+    for _ in 0..1 + random.below(3) {
+        let at = 3 * random.below(list.len() / 3);
+        let t = list[at + 2].clamp(0, MOST_TOLERANCE);
+        match random.below(3) {
+            0 => list[at] = random.pick(&[LEFT + t - 1, RIGHT - t + 1, i16::MIN, i16::MAX]),
+            1 => list[at + 1] = random.pick(&[FOOT + t - 1, TOP - t + 1, i16::MIN, i16::MAX]),
+            _ => list[at + 2] = random.pick(&[-1, MOST_TOLERANCE + 1, i16::MIN, i16::MAX]),
+        }
+    }
+    match random.below(10) {
+        0 => list.clear(),
+        1 => list.truncate(random.below(list.len())),
+        2 => list.extend(vec![random.word() as i16; 1 + random.below(2)]),
+        _ => (),
     }
 }
 
@@ -321,6 +388,80 @@ fn a_centre_far_outside_the_em_box() {
 }
 
 #[test]
+fn drawn_traced_lists() {
+    let mut times = [0; 15];
+    for seed in 0..50_000 {
+        let mut random = Random::new(seed);
+        let longest = random.pick(&[4, 12, 40]);
+        let list = drawn_traced(longest, &mut random);
+        let name = format!("seed {seed}");
+        times[usize::from(compare_traced(&list, &name))] += 1;
+        compare_without_tolerances(&list, &name);
+    }
+    assert!([0, 3, 5, 9, 14].iter().all(|&number| times[number] > 1_000), "{times:?}");
+}
+
+#[test]
+fn long_traced_lists() {
+    for seed in 0..100 {
+        let list = drawn_traced(MOST_TRACED, &mut Random::new(seed));
+        compare_traced(&list, &format!("seed {seed}"));
+        compare_without_tolerances(&list, &format!("seed {seed}"));
+    }
+}
+
+#[test]
+fn traced_lists_at_the_limits() {
+    for length in [0, 1, 2, 3, 3_071, 3_072, 3_073, 3_074, 3_075, 3_078] {
+        for number in [0, 50, 51, -1] {
+            compare_traced(&vec![number; length], &format!("{length} times {number}"));
+        }
+    }
+    let disk = Disk { x: 50, y: 50, e: 1, s: 5_000 };
+    assert_eq!(smallest_disk_of_traced(&[MOST_TOLERANCE; 3 * MOST_TRACED]), Ok(disk));
+    assert_eq!(smallest_disk_of_traced(&[MOST_TOLERANCE + 1; 3 * MOST_TRACED]), Err(Refusal::BadTolerance));
+    assert_eq!(smallest_disk_of_traced(&[MOST_TOLERANCE; 3 * MOST_TRACED + 3]), Err(Refusal::TooMany));
+}
+
+/// Squares of side 100 in the four corners of the em box: the disk is as large as one can be.
+#[test]
+fn the_largest_disk_of_traced_points() {
+    let list = [50, -200, 50, 950, -200, 50, 50, 700, 50, 950, 700, 50];
+    let disk = Disk { x: 500, y: 250, e: 1, s: 500_000 };
+    assert_eq!(smallest_disk_of_traced(&list), Ok(disk));
+    assert_eq!(whole_radius(disk, SupportSet::One(Point { x: 50, y: -200 })), Ok(708));
+    compare_traced(&list, "squares in the corners of the em box");
+}
+
+/// 9 and 4 come before the points; then the first faulty point decides, and for that one its tolerance before its square.
+#[test]
+fn traced_points_refused_by_hand() {
+    let cases: [(&[i16], u8); 16] = [
+        (&[-1; 3_076], 9),
+        (&[-1; 3_075], 4),
+        (&[-1; 3_072], 14),
+        (&[-1, 0, 51], 14),
+        (&[0, 0, -1], 14),
+        (&[i16::MAX; 3], 14),
+        (&[i16::MIN; 3], 14),
+        (&[i16::MAX, i16::MAX, 50], 3),
+        (&[i16::MIN, i16::MIN, 50], 3),
+        (&[49, 0, 50], 3),
+        (&[951, 0, 50], 3),
+        (&[500, -201, 50], 3),
+        (&[500, 701, 50], 3),
+        (&[500, 0, 50, 1, 0, 2, 500, 0, 51], 3),
+        (&[500, 0, 50, 500, 0, 51, 1, 0, 2], 14),
+        (&[1_001, 0, 0], 3),
+    ];
+    for (list, refusal) in cases {
+        let name = format!("{} numbers, {:?}", list.len(), &list[..list.len().min(9)]);
+        assert_eq!(ours(smallest_disk_of_traced(list)), Err(refusal), "{name}");
+        compare_traced(list, &name);
+    }
+}
+
+#[test]
 fn drawn_sheets() {
     for seed in 0..200_000 {
         let case = damage::sheet(&mut Random::new(seed));
@@ -366,6 +507,8 @@ fn fuzzed_bytes() {
         compare_record_like(&mut random, &name);
         let list: Vec<i16> = any.chunks(2).map(|pair| i16::from(pair[0]) - 20).collect();
         compare_list(&list, &name);
+        compare_traced(&list, &name);
+        compare_traced(&few.iter().map(|&byte| byte.into()).collect::<Vec<i16>>(), &name);
         if seed % 4 == 0 {
             compare_description(&any, 8_192, &name);
             compare_description(&drawn_bytes(&mut random, 40, b"0123 \n\n -9+x\t\r\0"), 8_192, &name);
