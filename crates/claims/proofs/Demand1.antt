@@ -19,6 +19,7 @@ demand-one = record {
   reader = calls.reader;
   append = calls.append;
   through = calls.through;
+  traced = calls.traced;
   loader-keeps = λ t l n e. after-refused t l n e;
   engine-keeps = λ l n e. list-refused l e;
   writer-keeps = λ d ps b n e. ap (λ (o : Outcome (Unit {0})). leftBy o d ps b) e;

@@ -6,8 +6,8 @@
 --
 -- `GoesBy row o`: o is refused with n exactly where n is due first by the row, and a value is given exactly where every rule is kept (rules/specs/Row.antt).
 -- The rows, with the papers' numbers in their order: rules/specs/Rules.antt. The loader is lent a list, the engine its point list, the writer a
--- buffer, and the call of document 02, item 2 a list that it puts a point into; descriptions, sheets, records and the list of the call of item 6 are
--- lent to be read alone.
+-- buffer, and the call of document 02, item 2 a list that it puts a point into; descriptions, sheets, records and the lists of the calls of items 6 and 7
+-- are lent to be read alone.
 use mathlib.Core.Path.{_≡_}
 use mathlib.Core.List.{List}
 use Prim.Native.Nat.{ℕ}
@@ -24,12 +24,13 @@ use Rattle.sheet.specs.Sheet.{glyphOf}
 use Rattle.engine.specs.Engine.{encloseOf, listAfter}
 use Rattle.chosen_points.specs.declared.Chosen.{Chosen}
 use Rattle.chosen_points.specs.Chosen.{throughOf}
+use Rattle.traced_points.specs.Traced.{tracedOf}
 use Rattle.preview.specs.Preview.{previewOf}
 use Rattle.radius.specs.Radius.{radiusOf}
 use Rattle.record_writer.specs.Writing.{writeOf, bufferAfter}
 use Rattle.record_reader.specs.Reading.{readOf}
 use Rattle.rules.specs.Row.{GoesBy}
-use Rattle.rules.specs.Rules.{Bytes, loaderRow, sheetRow, engineRow, writerRow, readerRow, diskRow, appendRow, throughRow}
+use Rattle.rules.specs.Rules.{Bytes, loaderRow, sheetRow, engineRow, writerRow, readerRow, diskRow, appendRow, throughRow, tracedRow}
 
 pub record Demand1 : Type 0 where
   -- "the call gives the refusal number due first .. if none is broken, it is not refused"
@@ -42,6 +43,7 @@ pub record Demand1 : Type 0 where
   pub reader : (bs : List ℕ) → Bytes bs → GoesBy (readerRow bs) (readOf bs)
   pub append : (p : DrawnPoint) (l : List ℤ) (n : ℕ) → GoesBy (appendRow p l n) (appendOf p l n)
   pub through : (l : List ℤ) (c : Chosen) → GoesBy (throughRow l c) (throughOf l c)
+  pub traced : (l : List ℤ) → GoesBy (tracedRow l) (tracedOf l)
   -- "and changes nothing it was lent"
   pub loader-keeps : (t : List ℕ) (l : List ℤ) (n : ℕ) → loadOf t l ≡ refused n → description.listAfter t l ≡ l
   pub engine-keeps : (l : List ℤ) (n : ℕ) → encloseOf l ≡ refused n → listAfter l ≡ l

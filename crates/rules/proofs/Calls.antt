@@ -1,6 +1,6 @@
 -- Each public call goes by its row of rules (specs/Rules.antt).
 --
---   loader, sheet, engine, radius, preview, writer, reader, append, through : the calls
+--   loader, sheet, engine, radius, preview, writer, reader, append, through, traced : the calls
 use mathlib.Core.Path.{_≡_, refl, sym, ap, ap₂, _∙_, subst}
 use mathlib.Core.Bool.{Bool, true, false, not, true≢false}
 use mathlib.Core.List.{List, [], _∷_}
@@ -8,9 +8,11 @@ use Prim.Native.Nat.{ℕ, suc, _*_, _/_, _%_, _≤_, _<_}
 use native.Mathlib.Omega.{arith}
 use borrow.Author.Tests.{ltb-true, ltb-false, leb-true, leb-false, eqb-true, eqb-false, eq-eqb, not-true, not-false}
 use lib.Dec.{eqb, leb, ltb}
-use lib.IntN.{ℤ}
+use lib.IntN.{ℤ, pos}
 use lib.ListN.{length}
+use lib.Signed.{leZ}
 use Rattle.answers.specs.Outcome.{Outcome, given, refuseIf, andThen}
+use Rattle.integers.proofs.Tests.{both, test-true, between-low, between-high}
 use Rattle.geometry.specs.declared.Point.{Point}
 use Rattle.geometry.specs.declared.Disk.{Disk}
 use Rattle.geometry.specs.EmBox.{em, Inside, inEmBox, allInEmBox}
@@ -28,6 +30,11 @@ use Rattle.fitting.specs.Fitting.{fits, fittingDisk}
 use Rattle.chosen_points.specs.declared.Chosen.{Chosen}
 use Rattle.chosen_points.specs.Chosen.{chosen, fixed, throughOf}
 use Rattle.chosen_points.proofs.Fitting.{all-there, there-all, some-fits, fits-some}
+use Rattle.tracings.specs.declared.TracedPoint.{TracedPoint}
+use Rattle.tracings.specs.Squares as squares
+use Rattle.tracings.specs.Squares.{corners, allCorners}
+use Rattle.square_corners.proofs.Threes.{length-traced}
+use Rattle.traced_points.specs.Traced.{tolerated, fault, firstFault, tracedOf}
 use Rattle.validity.specs.Valid.{valid}
 use Rattle.radius.specs.Radius.{wholeRadius, radiusOf}
 use Rattle.record_writer.specs.Layout.{recordLength}
@@ -35,9 +42,9 @@ use Rattle.record_writer.specs.Writing.{writeOf}
 use Rattle.record_reader.specs.Reading.{diskIn, pointsIn, countIn, readOf}
 use Rattle.record_reader.proofs.RoundTrip.{read-written, accepted, written-again}
 use Rattle.preview.specs.Preview.{floats, previewOf}
-use Rattle.rules.specs.Row.{_unless_, GoesBy}
-use Rattle.rules.specs.Rules.{Bytes, IsRecord, Names, loaderRow, sheetRow, engineRow, writerRow, readerRow, diskRow, appendRow, throughRow}
-use Rattle.rules.proofs.RowLaws.{row-end, row-step, row-then, row-through}
+use Rattle.rules.specs.Row.{_unless_, eachOf, GoesBy}
+use Rattle.rules.specs.Rules.{Bytes, IsRecord, Names, loaderRow, sheetRow, engineRow, writerRow, readerRow, diskRow, appendRow, throughRow, pointRow, tracedRow}
+use Rattle.rules.proofs.RowLaws.{row-end, row-step, row-then, row-through, row-none, row-first}
 use Rattle.geometry.proofs.EmBox.{inside, inside-test, all-inside, inside-all}
 use Rattle.rules.proofs.Recordables.{valid-recordable, recordable-valid}
 use Rattle.rules.proofs.Sheets.{in-order, ordered}
@@ -115,6 +122,43 @@ through l c =
     row-step (not (allOf (has P) (chosen c))) 12 (λ t k. fails t (all-there l c k)) (λ t. there-all l c (not-false (allOf (has P) (chosen c)) t)) (λ there.
     row-step (not fit) 13 (λ t k. fails t (some-fits l c (k .0) (k .1))) (λ t. fits-some l c (not-false fit t)) (λ some.
     row-end _)))
+
+-- the rules of one traced point, of each, and of the list
+point : (s : TracedPoint) → GoesBy (pointRow s) (fault s)
+unfolding fault
+point s =
+    row-step (not (tolerated s)) 14 (λ h k. fails h (both (test-true (leZ (pos 0) (s .t)) (k .0 .le)) (test-true (leZ (s .t) (pos 50)) (k .1 .le))))
+    (λ h. let in-range = not-false (tolerated s) h in (between-low (pos 0) (s .t) (pos 50) in-range, between-high (pos 0) (s .t) (pos 50) in-range)) (λ range.
+    row-step (not (allInEmBox (corners s))) 3 (λ h k. fails h (inside-all (corners s) k))
+    (λ h. all-inside (corners s) (not-false (allInEmBox (corners s)) h)) (λ boxed.
+    row-end tt))
+
+each : (ss : List TracedPoint) → GoesBy (eachOf pointRow ss ∷ []) (firstFault ss)
+unfolding firstFault
+each [] = row-none pointRow tt
+each (s ∷ ss) = row-first pointRow s ss (row-then (pointRow s) (eachOf pointRow ss ∷ []) (λ u. firstFault ss) (fault s) (point s) (λ u e. each ss))
+
+pub traced : (l : List ℤ) → GoesBy (tracedRow l) (tracedOf l)
+unfolding tracedOf
+traced l =
+    row-step (not (eqb (length l % 3) 0)) 9 (λ h e. fails h (eq-eqb (length l % 3) 0 e)) (λ h. eqb-true (length l % 3) 0 (not-false _ h)) (λ threes.
+    let n = length-traced l threes in
+    row-step (eqb (length l) 0) 5 (λ h k. none n (eqb-true (length l) 0 h) k) (λ h. some n (eqb-false (length l) 0 h)) (λ one.
+    row-step (ltb 1024 (length l / 3)) 4 (λ h k. many n (ltb-true 1024 (length l / 3) h) k) (λ h. few n (ltb-false 1024 (length l / 3) h)) (λ most.
+    row-then (eachOf pointRow (squares.traced l) ∷ []) [] _ (firstFault (squares.traced l)) (each (squares.traced l)) (λ u e.
+    row-end _))))
+  where
+    none : {n m : ℕ} → n ≡ 3 * m → n ≡ 0 → 1 ≤ m → ⊥
+    none e h k = omega arith
+
+    some : {n m : ℕ} → n ≡ 3 * m → (n ≡ 0 → ⊥) → 1 ≤ m
+    some e h = omega (arith, h)
+
+    many : {n m : ℕ} → n ≡ 3 * m → 1024 < n / 3 → m ≤ 1024 → ⊥
+    many e h k = omega arith
+
+    few : {n m : ℕ} → n ≡ 3 * m → n / 3 ≤ 1024 → m ≤ 1024
+    few e h = omega arith
 
 -- one check of a disk and its points, and then a value
 checked : {A : Type 0} (d : Disk) (ps : List Point) (a : A) → GoesBy (diskRow d ps) (refuseIf (not (valid d ps)) 7 (given a))

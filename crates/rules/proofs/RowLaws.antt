@@ -6,15 +6,17 @@
 --   row-same   : the same answer by an equivalent row
 --   row-kept, rule-kept : a rule that is kept, before the rest of the row
 --   row-then   : one call after another goes by the one row, then the other
+--   row-none, row-first : the rule of all items of a list, by the first of them
 --   row-through : a call that is refused as another is, and gives a value where that does, goes by the same row
-use mathlib.Core.Path.{_≡_, refl, sym, ap, _∙_}
+use mathlib.Core.Path.{_≡_, refl, sym, ap, subst, _∙_}
 use mathlib.Core.Logic.{_↔_, _⊎_, inl, inr}
 use mathlib.Core.Bool.{Bool, true, false}
-use mathlib.Core.List.{List, [], _∷_, _++_}
+use mathlib.Core.List.{List, [], _∷_, _++_, List·Memᴰ, List·Memᴰ·head, List·Memᴰ·tail, List·Memᴰ·cases-cons, List·Memᴰ·not-nil}
 use Prim.Native.Nat.{ℕ}
+use native.Mathlib.Omega.{arith}
 use Rattle.answers.specs.Outcome.{Outcome, given, refused, refuseIf, andThen}
 use Rattle.answers.proofs.OutcomeLaws.{not-given, refused-same}
-use Rattle.rules.specs.Row.{Rule, _unless_, DueFirst, AllKept, GoesBy}
+use Rattle.rules.specs.Row.{Rule, _unless_, DueFirst, AllKept, FirstBroken, eachOf, GoesBy}
 
 pub row-end : {A : Type 0} (a : A) → GoesBy [] (given a)
 row-end a = record {
@@ -99,3 +101,66 @@ row-then row next f (refused r) g h = record {
   );
   taken = (λ t. absurd (not-given (t .1)), λ c. absurd (not-given (g .taken .1 (kept-append row next .0 c .0) .1)));
 }
+
+-- ---- the rule of all items of a list
+
+module _ {A : Type 0} (row : A → List Rule) where
+  no-item : (front back : List A) (a : A) → [] ≡ front ++ a ∷ back → ⊥
+  no-item [] back a e = let z : _≡_ {A = ℕ} 0 1 = cc in omega arith
+  no-item (b ∷ front) back a e = let z : _≡_ {A = ℕ} 0 1 = cc in omega arith
+
+  pub row-none : {B : Type 0} (b : B) → GoesBy (eachOf row [] ∷ []) (given b)
+  row-none b = row-kept (eachOf row []) (λ a m. absurd (List·Memᴰ·not-nil m)) (λ n f. no-item (f .front) (f .back) (f .item) (f .parted)) (row-end b)
+
+  module _ (a : A) (xs : List A) where
+    all-kept : AllKept (row a) → ((b : A) → List·Memᴰ b xs → AllKept (row b)) → (b : A) → List·Memᴰ b (a ∷ xs) → AllKept (row b)
+    all-kept k h b m = elim (List·Memᴰ·cases-cons m) [ inl e ↦ subst (λ (c : A). AllKept (row c)) (sym e) k | inr i ↦ h b i ]
+
+    -- the first item is broken, or it keeps its row and the first broken one is behind it
+    broken-here : {n : ℕ} → DueFirst (row a) n → FirstBroken row (a ∷ xs) n
+    broken-here d = record { front = []; item = a; back = xs; parted = refl; kept = λ b m. absurd (List·Memᴰ·not-nil m); due = d }
+
+    broken-later : {n : ℕ} → AllKept (row a) → FirstBroken row xs n → FirstBroken row (a ∷ xs) n
+    broken-later k f = record {
+      front = a ∷ f .front;
+      item = f .item;
+      back = f .back;
+      parted = ap {B = List A} (λ l. a ∷ l) (f .parted);
+      kept = λ b m. elim (List·Memᴰ·cases-cons m) [ inl e ↦ subst (λ (c : A). AllKept (row c)) (sym e) k | inr i ↦ f .kept b i ];
+      due = f .due;
+    }
+
+    broken-split : {n : ℕ} → FirstBroken row (a ∷ xs) n → DueFirst (row a) n ⊎ (AllKept (row a) × FirstBroken row xs n)
+    broken-split {n} f = go (f .front) (f .parted) (f .kept)
+      where
+        go : (front : List A) → a ∷ xs ≡ front ++ f .item ∷ f .back → ((b : A) → List·Memᴰ b front → AllKept (row b))
+            → DueFirst (row a) n ⊎ (AllKept (row a) × FirstBroken row xs n)
+        go [] e k = let same : f .item ≡ a = cc in inl (subst (λ (c : A). DueFirst (row c) n) same (f .due))
+        go (b ∷ front) e k =
+            let same : b ≡ a = cc in
+            let others : xs ≡ front ++ f .item ∷ f .back = cc in
+            inr (
+              subst (λ (c : A). AllKept (row c)) same (k b (List·Memᴰ·head refl)),
+              record { front = front; item = f .item; back = f .back; parted = others; kept = λ c m. k c (List·Memᴰ·tail m); due = f .due },
+            )
+
+    pub row-first : {B : Type 0} {o : Outcome B} → GoesBy (row a ++ (eachOf row xs ∷ [])) o → GoesBy (eachOf row (a ∷ xs) ∷ []) o
+    row-first g = row-same (λ n. (to n, from n)) (kept-to, kept-from) g
+      where
+        kept-to : AllKept (row a ++ (eachOf row xs ∷ [])) → AllKept (eachOf row (a ∷ xs) ∷ [])
+        kept-to k = let h = kept-append (row a) (eachOf row xs ∷ []) .0 k in (all-kept (h .0) (h .1 .0), tt)
+
+        kept-from : AllKept (eachOf row (a ∷ xs) ∷ []) → AllKept (row a ++ (eachOf row xs ∷ []))
+        kept-from k = kept-append (row a) (eachOf row xs ∷ []) .1 (k .0 a (List·Memᴰ·head refl), ((λ b m. k .0 b (List·Memᴰ·tail m)), tt))
+
+        to : (n : ℕ) → DueFirst (row a ++ (eachOf row xs ∷ [])) n → DueFirst (eachOf row (a ∷ xs) ∷ []) n
+        to n d = elim (due-append (row a) (eachOf row xs ∷ []) n .0 d) [
+            inl h ↦ inl (broken-here h)
+          | inr h ↦ elim (h .1) [ inl k ↦ inl (broken-later (h .0) k) | inr k ↦ absurd (k .1) ]
+        ]
+
+        from : (n : ℕ) → DueFirst (eachOf row (a ∷ xs) ∷ []) n → DueFirst (row a ++ (eachOf row xs ∷ [])) n
+        from n d = due-append (row a) (eachOf row xs ∷ []) n .1 (elim d [
+            inl h ↦ elim (broken-split h) [ inl k ↦ inl k | inr k ↦ inr (k .0, inl (k .1)) ]
+          | inr h ↦ absurd (h .1)
+        ])

@@ -10,15 +10,17 @@
 --   Bytes bs           == bs is a list of bytes
 --   IsRecord bs        == bs is the record of such a disk and points
 --   Names p c          == the drawing program's point p is c: its whole numbers are c's, or its floats stand for them exactly
---   loaderRow, sheetRow, engineRow, writerRow, readerRow, diskRow, appendRow, throughRow == the rows; radius and preview have diskRow
+--   pointRow s         == the rules of a traced point: 14, then 3
+--   loaderRow, sheetRow, engineRow, writerRow, readerRow, diskRow, appendRow, throughRow, tracedRow == the rows; radius and preview have diskRow
 --
 -- `Inside em p`: x is from 0 to 1000 and y from −250 to 750 (geometry/specs/EmBox.antt, which has every limit of points and disks).
 use mathlib.Core.Path.{_≡_}
 use mathlib.Core.List.{List, [], _∷_, _++_, List·Memᴰ}
 use Prim.Native.Nat.{ℕ, suc, _+_, _%_, _≤_, _<_}
-use lib.IntN.{ℤ}
+use lib.IntN.{ℤ, pos}
 use lib.ListN.{length, getD}
 use Rattle.divisors.specs.Divisor.{Reduced}
+use Rattle.integers.specs.Order.{_≼_}
 use Rattle.geometry.specs.declared.Point.{Point}
 use Rattle.geometry.specs.declared.Disk.{Disk}
 use Rattle.geometry.specs.EmBox.{em, Inside, WithinLimits}
@@ -28,6 +30,8 @@ use Rattle.point_lists.specs.Rising.{Rising}
 use Rattle.disks.specs.Smallest.{RationalDisk, Fits}
 use Rattle.chosen_points.specs.declared.Chosen.{Chosen}
 use Rattle.chosen_points.specs.Chosen.{chosen}
+use Rattle.tracings.specs.declared.TracedPoint.{TracedPoint}
+use Rattle.tracings.specs.Squares.{traced, corners}
 use Rattle.lines.specs.Line.{Line, blank, point, fault}
 use Rattle.description.specs.Description.{linesRead, pointsOn, named}
 use Rattle.whole_floats.specs.Whole.{StandsFor}
@@ -36,7 +40,7 @@ use Rattle.drawn_points.specs.declared.DrawnPoint.the-variants.{Whole, Drawn}
 use Rattle.sheet.specs.Sheet.{count, directoryEnd, pair}
 use Rattle.record_writer.specs.Layout.{recordLength}
 use Rattle.record_writer.specs.Bytes.{recordBytes}
-use Rattle.rules.specs.Row.{Rule, _unless_, DueFirst}
+use Rattle.rules.specs.Row.{Rule, _unless_, DueFirst, eachOf}
 
 -- ---- descriptions
 
@@ -121,6 +125,25 @@ throughRow list c =
     ++ (12 unless ((p : Point) → In p (chosen c) → In p (points list))
     ∷ 13 unless ((k : RationalDisk) × Fits k (points list) (chosen c))
     ∷ [])
+
+-- ---- hand-traced letters (02, item 7)
+
+-- "14 for a t outside 0 to 50, before 3 for the same corner"; "a square that leaves the em box is 3"
+abbrev pub pointRow : TracedPoint → List Rule
+pointRow s =
+    14 unless ((pos 0 ≼ s .t) × (s .t ≼ pos 50))
+    ∷ 3 unless ((p : Point) → In p (corners s) → Inside em p)
+    ∷ []
+
+-- "The list goes by threes, x, y, t, any other length being 9; it has at most 1,024 traced corners, else 4"; "9, 5 and 4 first; then the first faulty
+-- corner decides"
+abbrev pub tracedRow : List ℤ → List Rule
+tracedRow list =
+    9 unless (length list % 3 ≡ 0)
+    ∷ 5 unless (1 ≤ length (traced list))
+    ∷ 4 unless (length (traced list) ≤ 1024)
+    ∷ eachOf pointRow (traced list)
+    ∷ []
 
 -- ---- points from a drawing program (02, item 2)
 
