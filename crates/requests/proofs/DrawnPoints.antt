@@ -18,7 +18,7 @@ use lib.ListN.{length, take, drop}
 use lib.Ieee.{Float, nan, inf, fin, up, down}
 use lib.Ieee.Fits.{down-pos}
 use Rattle.answers.specs.Outcome.{Outcome, given, refused, refuseIf, andThen}
-use Rattle.answers.proofs.OutcomeLaws.{not-given, refused-same, given-same}
+use Rattle.answers.proofs.OutcomeLaws.{not-given, refused-same, given-same, both-given}
 use Rattle.integers.specs.Order.{signed}
 use Rattle.integers.proofs.Order.{≡-cancel}
 use Rattle.integers.proofs.Laws.{*-comm, *-assoc}
@@ -51,7 +51,6 @@ use Rattle.claims.specs.Values.{bits}
 use Rattle.claims.specs.Demand3.{Answers, answersFor}
 use Rattle.requests.specs.DrawnPoints.{Broken, not-a-number, infinite, fraction, SameNumber, EqualValue, Led, led, DrawnPoints}
 use Rattle.claims.proofs.Records.{filled}
-use Rattle.claims.proofs.Whole.{both-given}
 
 -- ---- floats
 

@@ -4,3 +4,4 @@ pub mod RecordCount
 pub mod TextLeads
 pub mod InnerLevel
 pub mod ChosenPoints
+pub mod TracedPoints

@@ -4,3 +4,4 @@ pub mod CutKeepsOff
 pub mod RecordCount
 pub mod InnerLevel
 pub mod ChosenPoints
+pub mod TracedPoints

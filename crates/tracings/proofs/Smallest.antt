@@ -3,6 +3,7 @@
 --   corners-over, over-corners : the smallest disk of the corners is the smallest over all tracings, and the other way round
 --   smallest-over   : so `diskOf (allCorners ss)` is, for at least one traced point
 --   only-smallest   : and no other disk is
+--   corners-place, place-corner : the corners of a square with t zero are its middle
 --   read-same       : with every t zero the squares' corners are the points as they were read
 use mathlib.Core.Path.{_≡_, refl, sym, _∙_, ap, subst}
 use mathlib.Core.Logic.{_⊎_, inl, inr}
@@ -89,7 +90,7 @@ module _ (s : TracedPoint) (zero-t : s .t ≡ pos 0) where
   plus : (z : ℤ) → z +ℤ s .t ≡ z
   plus z = ap (λ (t : ℤ). z +ℤ t) zero-t ∙ +-zero z
 
-  corners-place : (p : Point) → In p (corners s) → p ≡ place s
+  pub corners-place : (p : Point) → In p (corners s) → p ≡ place s
   unfolding corners
   corners-place =
       also Is (point-path (minus (s .x)) (minus (s .y))) (also Is (point-path (minus (s .x)) (plus (s .y)))
@@ -98,7 +99,7 @@ module _ (s : TracedPoint) (zero-t : s .t ≡ pos 0) where
       Is : Point → Type 0
       Is p = p ≡ place s
 
-  place-corner : In (place s) (corners s)
+  pub place-corner : In (place s) (corners s)
   unfolding corners
   place-corner = List·Memᴰ·head (point-path (sym (minus (s .x))) (sym (minus (s .y))))
 
