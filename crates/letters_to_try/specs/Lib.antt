@@ -4,3 +4,4 @@ pub mod Drawings
 pub mod Records
 pub mod InnerLevel
 pub mod ChosenPoints
+pub mod TracedPoints

@@ -155,12 +155,12 @@ module _ {A : Type 0} (row : A → List Rule) where
 
         to : (n : ℕ) → DueFirst (row a ++ (eachOf row xs ∷ [])) n → DueFirst (eachOf row (a ∷ xs) ∷ []) n
         to n d = elim (due-append (row a) (eachOf row xs ∷ []) n .0 d) [
-            inl h ↦ inl (broken-here h)
+          | inl h ↦ inl (broken-here h)
           | inr h ↦ elim (h .1) [ inl k ↦ inl (broken-later (h .0) k) | inr k ↦ absurd (k .1) ]
         ]
 
         from : (n : ℕ) → DueFirst (eachOf row (a ∷ xs) ∷ []) n → DueFirst (row a ++ (eachOf row xs ∷ [])) n
         from n d = due-append (row a) (eachOf row xs ∷ []) n .1 (elim d [
-            inl h ↦ elim (broken-split h) [ inl k ↦ inl k | inr k ↦ inr (k .0, inl (k .1)) ]
+          | inl h ↦ elim (broken-split h) [ inl k ↦ inl k | inr k ↦ inr (k .0, inl (k .1)) ]
           | inr h ↦ absurd (h .1)
         ])
