@@ -13,8 +13,8 @@ use borrow.Author.Tests.{ltb-true, ltb-false}
 use lib.Dec.{ltb}
 use lib.IntN.{ℤ}
 use lib.ListN.{length, take, drop}
-use Rattle.answers.specs.Outcome.{Outcome, given, refused, refuseIf, andThen}
-use Rattle.answers.proofs.OutcomeLaws.{not-given, not-refused, given-same, same-given, both-given}
+use Rattle.answers.specs.Outcome.{Outcome, given, refuseIf, andThen}
+use Rattle.answers.proofs.OutcomeLaws.{not-refused, given-same, same-given, both-given}
 use Rattle.integers.specs.Order.{_≺_}
 use Rattle.geometry.specs.declared.Point.{Point}
 use Rattle.geometry.specs.declared.Disk.{Disk}

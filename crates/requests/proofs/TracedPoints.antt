@@ -5,7 +5,7 @@
 --   traced-points   : TracedPoints
 use mathlib.Core.Path.{_≡_, refl, sym, _∙_, ap, subst}
 use mathlib.Core.Logic.{_⊎_, inl, inr}
-use mathlib.Core.List.{List, [], _∷_, _++_, List·Memᴰ, List·Memᴰ·head, Memᴰ·append-right, Memᴰ·map, Memᴰ·of-map}
+use mathlib.Core.List.{List, [], _∷_, List·Memᴰ, List·Memᴰ·head, Memᴰ·append-right, Memᴰ·map, Memᴰ·of-map}
 use Prim.Native.Nat.{ℕ, _*_, _%_, _≤_}
 use native.Mathlib.Omega.{arith}
 use lib.Dec.{T}
@@ -13,7 +13,7 @@ use lib.IntN.{ℤ, pos}
 use lib.ListN.{length}
 use lib.Signed.{_≤ℤ_}
 use Rattle.answers.specs.Outcome.{Outcome, given, refused, andThen}
-use Rattle.answers.proofs.OutcomeLaws.{not-given, given-same}
+use Rattle.answers.proofs.OutcomeLaws.{not-given}
 use Rattle.geometry.specs.declared.Point.{Point}
 use Rattle.geometry.specs.declared.Disk.{Disk}
 use Rattle.geometry.specs.EmBox.{em, Inside, inEmBox, WithinLimits}
@@ -33,7 +33,7 @@ use Rattle.tracings.proofs.Smallest.{smallest-over, only-smallest, Exact, corne
 use Rattle.square_corners.proofs.FourCorners.{corners-boxed}
 use Rattle.traced_points.specs.Traced.{tracedOf}
 use Rattle.traced_points.proofs.Checks as checks
-use Rattle.rules.specs.Row.{DueFirst, AllKept, FirstBroken}
+use Rattle.rules.specs.Row.{DueFirst, AllKept}
 use Rattle.rules.specs.Rules.{engineRow, pointRow, tracedRow}
 use Rattle.rules.proofs.Calls as calls
 use Rattle.requests.specs.TracedPoints.{TracedPoints}

@@ -32,7 +32,7 @@ use Rattle.chosen_points.specs.Chosen.{chosen, fixed, throughOf}
 use Rattle.chosen_points.proofs.Fitting.{all-there, there-all, some-fits, fits-some}
 use Rattle.tracings.specs.declared.TracedPoint.{TracedPoint}
 use Rattle.tracings.specs.Squares as squares
-use Rattle.tracings.specs.Squares.{corners, allCorners}
+use Rattle.tracings.specs.Squares.{corners}
 use Rattle.square_corners.proofs.Threes.{length-traced}
 use Rattle.traced_points.specs.Traced.{tolerated, fault, firstFault, tracedOf}
 use Rattle.validity.specs.Valid.{valid}

@@ -5,16 +5,15 @@
 --   all-right             : where none is faulty each keeps its rules
 --   refused-threes, refused-empty, refused-long, refused-fault, accepted : the answer due, by the first check that refuses
 --   accepted-list         : a list whose answer is given keeps the rules
-use mathlib.Core.Path.{_≡_, refl, sym, ap, _∙_}
-use mathlib.Core.Logic.{_⊎_, inl, inr}
+use mathlib.Core.Path.{_≡_, refl, sym}
+use mathlib.Core.Logic.{inl, inr}
 use mathlib.Core.Bool.{true, false}
 use mathlib.Core.List.{List, [], _∷_, List·Memᴰ, List·Memᴰ·cases-cons, List·Memᴰ·not-nil}
 use Prim.Native.Nat.{ℕ, _/_, _%_, _≤_, _<_}
-use native.Mathlib.Omega.{arith}
 use borrow.Author.Tests.{eq-eqb, ne-eqb, lt-ltb, le-ltb, eqb-true, eqb-false, ltb-false, not-false}
 use lib.IntN.{ℤ}
 use lib.ListN.{length}
-use Rattle.answers.specs.Outcome.{Outcome, given, refused, andThen}
+use Rattle.answers.specs.Outcome.{given, refused}
 use Rattle.answers.proofs.OutcomeLaws.{not-refused, same-given, both-given}
 use Rattle.geometry.specs.declared.Disk.{Disk}
 use Rattle.geometry.specs.EmBox.{allInEmBox}

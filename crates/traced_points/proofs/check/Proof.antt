@@ -1,11 +1,10 @@
 -- `traced_points::check` meets its contract: each return is one of the row of checks.
-use mathlib.Core.Path.{sym}
+use mathlib.Core.Path.{_≡_, sym}
 use mathlib.Core.List.{List}
 use Prim.Native.Nat.{_/_, _%_, _≤_}
 use borrow.Author.Needs.{needs}
 use lib.IntN.{ℤ}
 use lib.ListN.{length}
-use mathlib.Core.Path.{_≡_}
 use Rattle.engine.specs.declared.Checked.{Checked}
 use Rattle.engine.specs.declared.Checked.the-variants.{Passed, Refused}
 use Rattle.tracings.specs.Squares.{traced}

@@ -1,12 +1,10 @@
 -- `traced_points::check_point` meets its contract: each return is one of the rules' row.
 use mathlib.Core.Path.{_≡_, sym, _∙_}
-use mathlib.Core.Bool.{true, false}
+use mathlib.Core.Bool.{true}
 use borrow.Author.Needs.{needs}
 use borrow.Author.Tests.{not-true, not-false}
 use lib.IntN.{pos}
 use Rattle.integers.proofs.Tests.{between-low}
-use Rattle.geometry.specs.EmBox.{allInEmBox}
-use Rattle.tracings.specs.Squares.{corners}
 use Rattle.traced_points.specs.Traced.{tolerated}
 use Rattle.traced_points.proofs.Checks.{fault-tolerance, fault-box, fault-none}
 use Rattle.traced_points.proofs.check_point.Statement.{statement}

@@ -1,7 +1,7 @@
 -- `traced_points::has_room` meets its contract: the ends, moved by a number of 16 bits, fit 64.
 use mathlib.Core.Path.{_∙_}
 use borrow.Author.Needs.{needs}
-use lib.IntN.{ℤ, _+ℤ_, _-ℤ_}
+use lib.IntN.{_+ℤ_, _-ℤ_}
 use mir.Syntax.{w64}
 use mir.Val.{toZ, ofZ}
 use Rattle.integers.specs.Order.{between}
