@@ -8,7 +8,7 @@ use crate::engine::flat;
 use crate::geometry::Point;
 use crate::inputs::{ChosenCase, FixedCase};
 use crate::letters;
-use crate::limits::{LIST_LENGTH, MOST_POINTS, MOST_TRACED};
+use crate::limits::{LIST_LENGTH, MOST_POINTS, MOST_TOLERANCE, MOST_TRACED};
 use crate::lists::{self, Kind, KINDS};
 use crate::random::Random;
 use crate::traced::{self, TracedPoint};
@@ -124,12 +124,11 @@ fn stored_traced() -> Vec<Vec<i16>> {
 /// Lists of 1,024 traced points: from the inside out with every tolerance zero, and round and round with all tolerances by turns; around a
 /// circle with all by turns, and outlines with every one 50.
 fn long_traced() -> [Vec<i16>; 4] {
-    let all_by_turns = |i: usize| (i % 51) as i16;
-    let lists: [(Kind, fn(usize) -> i16); 4] =
-        [(Kind::ByDistance, |_| 0), (Kind::Growing, all_by_turns), (Kind::Convex, all_by_turns), (Kind::Outline, |_| 50)];
-    lists.map(|(kind, tolerance)| {
+    let all: Vec<i16> = (0..=MOST_TOLERANCE).collect();
+    let lists = [(Kind::ByDistance, &[0][..]), (Kind::Growing, &all), (Kind::Convex, &all), (Kind::Outline, &[MOST_TOLERANCE])];
+    lists.map(|(kind, by_turns)| {
         let points = lists::draw(kind, MOST_TRACED, &mut Random::new(8));
-        let traced = points.into_iter().enumerate().map(|(i, p)| traced::fitted(p, tolerance(i)));
+        let traced = points.into_iter().zip(by_turns.iter().cycle()).map(|(p, &t)| traced::fitted(p, t));
         traced::flat(&traced.collect::<Vec<TracedPoint>>())
     })
 }

@@ -262,7 +262,7 @@ mod tests {
         for _ in 0..8_000 {
             let list = draw(12, &mut random);
             let faulty = traced_of(&list).iter().map(faults).filter(|faults| faults.contains(&true)).collect();
-            let faults = (list.len() % 3 == 0, faulty);
+            let faults = (list.len().is_multiple_of(3), faulty);
             assert_eq!(smallest_disk_of_traced(&list).err(), due(&list, &faults), "{list:?}");
             drawn.push((list.len(), faults));
         }
