@@ -8,6 +8,7 @@ mod descriptions;
 mod drawings;
 mod records;
 mod sheets;
+mod traced;
 mod two_fixed;
 
 pub use chosen::choices;
@@ -15,6 +16,7 @@ pub use descriptions::descriptions;
 pub use drawings::drawings;
 pub use records::{readings, writings};
 pub use sheets::{parts, sheets};
+pub use traced::tracings;
 pub use two_fixed::fixings;
 
 /// The words of document 01 or 02 (where they leave a point open, of docs/DECISIONS.md), what a call is given, and what it must give.
@@ -35,6 +37,7 @@ mod tests {
     use crate::geometry::Disk;
     use crate::procedure::{self, Cover};
     use crate::refusal::Refusal;
+    use crate::traced::smallest_disk_of_traced;
     use crate::{description, drawing, engine::flat, figures, record, sheet};
 
     #[test]
@@ -66,6 +69,15 @@ mod tests {
             let answer = smallest_disk_through(&given.list, given.chosen).map_err(Refusal::number);
             let disk = gives.map(|[x, y, e, s]| Disk { x, y, e, s });
             assert_eq!(answer, disk, "{says}: {:?} of {} numbers", given.chosen, given.list.len());
+        }
+    }
+
+    #[test]
+    fn the_call_for_traced_points_keeps_to_them() {
+        for Edge { says, given, gives } in tracings() {
+            let answer = smallest_disk_of_traced(&given).map_err(Refusal::number);
+            let disk = gives.map(|[x, y, e, s]| Disk { x, y, e, s });
+            assert_eq!(answer, disk, "{says}: {} numbers, {:?}", given.len(), &given[..given.len().min(15)]);
         }
     }
 

@@ -13,6 +13,7 @@
 //! | [`procedure`] | Welzl's B_MTFDISK, transcribed: count of tests and order left |
 //! | [`two_fixed`] | the smallest disk with two points on its boundary (document 02, item 5), and drawn lists for it |
 //! | [`chosen`] | the smallest disk with one or two points of the list on its boundary (document 02, item 6), and drawn lists for it |
+//! | [`traced`] | the smallest disk of points known only to within a tolerance (document 02, item 7), and drawn lists for it |
 //! | [`engine`] | the disk engine: checks, then the four answers |
 //! | [`description`] | the loader |
 //! | [`drawing`] | points from a drawing program (document 02, item 2) |
@@ -50,6 +51,7 @@ pub mod sheet;
 pub mod smallest;
 pub mod stored;
 pub mod support;
+pub mod traced;
 pub mod two_fixed;
 pub mod vectors;
 pub mod worst;

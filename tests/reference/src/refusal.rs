@@ -16,6 +16,7 @@ pub enum Refusal {
     NotWhole = 11,
     NotInList = 12,
     NoDisk = 13,
+    BadTolerance = 14,
 }
 
 impl Refusal {

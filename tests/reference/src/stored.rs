@@ -8,11 +8,12 @@ use crate::engine::flat;
 use crate::geometry::Point;
 use crate::inputs::{ChosenCase, FixedCase};
 use crate::letters;
-use crate::limits::{LIST_LENGTH, MOST_POINTS};
+use crate::limits::{LIST_LENGTH, MOST_POINTS, MOST_TOLERANCE, MOST_TRACED};
 use crate::lists::{self, Kind, KINDS};
 use crate::random::Random;
+use crate::traced::{self, TracedPoint};
 use crate::two_fixed;
-use crate::vectors::{append, chosen, engine, fixed, from_description, loader, open_sheet, part, reader, writer, Vector};
+use crate::vectors::{append, chosen, engine, fixed, from_description, loader, open_sheet, part, reader, traced, writer, Vector};
 use crate::worst;
 
 /// The cases that the repository keeps.
@@ -27,6 +28,8 @@ pub fn stored() -> Vec<Vector> {
     vectors.extend(stored_with_two_fixed().chain(long_with_two_fixed()).map(|case| fixed(&case)));
     vectors.extend(edges::choices().iter().map(|edge| chosen(&edge.given)));
     vectors.extend(stored_with_chosen().chain(long_with_chosen()).map(|case| chosen(&case)));
+    vectors.extend(edges::tracings().iter().map(|edge| traced(&edge.given)));
+    vectors.extend(stored_traced().iter().chain(&long_traced()).map(|list| traced(list)));
     vectors
 }
 
@@ -42,6 +45,7 @@ pub fn drawn(seed: u64, count: usize) -> Vec<Vector> {
         vectors.push(from_description(describe(&lists::draw(random.pick(&KINDS), n, &mut random))));
     }
     vectors.extend(with_chosen(&mut random, count).iter().map(chosen));
+    vectors.extend(drawn_traced(&mut random, count).iter().map(|list| traced(list)));
     vectors
 }
 
@@ -108,6 +112,27 @@ fn long_with_chosen() -> [ChosenCase; 3] {
     })
 }
 
+/// `count` lists of up to 40 traced points.
+fn drawn_traced(random: &mut Random, count: usize) -> Vec<Vec<i16>> {
+    (0..count).map(|_| traced::draw(random.pick(&[4, 12, 40, 40]), random)).collect()
+}
+
+fn stored_traced() -> Vec<Vec<i16>> {
+    drawn_traced(&mut Random::new(7), 1_000)
+}
+
+/// Lists of 1,024 traced points: from the inside out with every tolerance zero, and round and round with all tolerances by turns; around a
+/// circle with all by turns, and outlines with every one 50.
+fn long_traced() -> [Vec<i16>; 4] {
+    let all: Vec<i16> = (0..=MOST_TOLERANCE).collect();
+    let lists = [(Kind::ByDistance, &[0][..]), (Kind::Growing, &all), (Kind::Convex, &all), (Kind::Outline, &[MOST_TOLERANCE])];
+    lists.map(|(kind, by_turns)| {
+        let points = lists::draw(kind, MOST_TRACED, &mut Random::new(8));
+        let traced = points.into_iter().zip(by_turns.iter().cycle()).map(|(p, &t)| traced::fitted(p, t));
+        traced::flat(&traced.collect::<Vec<TracedPoint>>())
+    })
+}
+
 fn letter_texts() -> Vec<Vec<u8>> {
     letters::LETTERS.iter().map(|letter| describe(&letters::points(letter.list))).collect()
 }
@@ -171,6 +196,7 @@ mod tests {
     use crate::geometry::Disk;
     use crate::listing;
     use crate::refusal::Refusal;
+    use crate::traced::smallest_disk_of_traced;
     use crate::vectors::{input, output, Call};
     use std::path::Path;
 
@@ -225,14 +251,49 @@ mod tests {
     }
 
     #[test]
+    fn traced_points_with_every_kind_of_answer_are_among_the_cases() {
+        let lists = stored_traced();
+        let answers: Vec<Result<Disk, Refusal>> = lists.iter().map(|list| smallest_disk_of_traced(list)).collect();
+        let refused = |refusal: Refusal| answers.iter().filter(|answer| **answer == Err(refusal)).count();
+        assert!(refused(Refusal::BadTolerance) >= 50 && refused(Refusal::OutsideBox) >= 40);
+        assert!(refused(Refusal::NoPoint) >= 15 && refused(Refusal::OddLength) >= 30);
+        let has_disk = |plain: bool| {
+            let is_plain = |list: &[i16]| list.iter().skip(2).step_by(3).all(|&t| t == 0);
+            lists.iter().zip(&answers).filter(|(list, answer)| is_plain(list) == plain && answer.is_ok()).count()
+        };
+        assert!(has_disk(true) >= 50 && has_disk(false) >= 500);
+    }
+
+    #[test]
+    fn long_lists_of_traced_points_have_other_disks_than_their_points_unless_all_is_exact() {
+        for (i, list) in long_traced().into_iter().enumerate() {
+            let exact: Vec<i16> = list.chunks(3).flat_map(|three| [three[0], three[1], 0]).collect();
+            assert_eq!(list.len(), 3_072);
+            assert_eq!(smallest_disk_of_traced(&list) == smallest_disk_of_traced(&exact), i == 0, "list {i}");
+        }
+    }
+
+    #[test]
     fn every_answer_and_every_refusal_is_among_the_cases() {
         let vectors = stored();
         let lists = vectors.iter().filter(|v| v.call == Call::Listing && v.printed.starts_with("disk")).count();
         assert!(lists >= 2_000);
         use Refusal::*;
         for refusal in [
-            TooLong, BadLine, OutsideBox, TooMany, NoPoint, BadSheet, BadRecord, NoRoom, OddLength, NoGlyph, NotWhole, NotInList,
+            TooLong,
+            BadLine,
+            OutsideBox,
+            TooMany,
+            NoPoint,
+            BadSheet,
+            BadRecord,
+            NoRoom,
+            OddLength,
+            NoGlyph,
+            NotWhole,
+            NotInList,
             NoDisk,
+            BadTolerance,
         ] {
             let line = listing::refused(refusal);
             assert!(vectors.iter().any(|v| v.printed.contains(&line)), "{refusal:?}");

@@ -13,6 +13,7 @@ use crate::listing;
 use crate::procedure::{self, Cover};
 use crate::record;
 use crate::sheet;
+use crate::traced::smallest_disk_of_traced;
 use crate::two_fixed;
 
 /// A case: the call that it is for, the bytes given and the lines printed.
@@ -35,6 +36,8 @@ pub enum Call {
     Fixed = b'F' as isize,
     /// The smallest disk with chosen points on its boundary.
     Chosen = b'C' as isize,
+    /// The smallest disk of traced points.
+    Traced = b'T' as isize,
     /// A drawing program's point put behind others, then the engine on them.
     Append = b'A' as isize,
     /// The sheet opener, then the part it found.
@@ -150,6 +153,16 @@ pub fn chosen(case: &ChosenCase) -> Vector {
     Vector { call: Call::Chosen, bytes, printed: printed + &format!("left {}\n", list_checksum(&case.list)) }
 }
 
+/// A list of traced points, two bytes a number, high byte first: the disk, and the checksum of the list, which is left as it came.
+pub fn traced(list: &[i16]) -> Vector {
+    let bytes = list.iter().flat_map(|number| number.to_be_bytes()).collect();
+    let printed = match smallest_disk_of_traced(list) {
+        Ok(Disk { x, y, e, s }) => format!("disk {x} {y} {e} {s}\n"),
+        Err(refusal) => listing::refused(refusal),
+    };
+    Vector { call: Call::Traced, bytes, printed: printed + &format!("left {}\n", list_checksum(list)) }
+}
+
 /// The kind, 1 for whole numbers and 2 for floats; x and y in eight bytes each, floats by their bits; how many points are there in eight
 /// bytes and the lent list's length in two, high byte first; then the numbers at the front of the list. Its checksum after the call is
 /// printed, and where a point was put into it, what the engine makes of the points there now.
@@ -255,6 +268,16 @@ mod tests {
         assert_eq!(vector(Chosen::Two(a, b)).bytes, [&[2], &numbers[..]].concat());
         let left = list_checksum(&[5, 1, 3]);
         assert_eq!(vector(Chosen::One(a)).printed, format!("refused 9\nleft {left}\n"));
+    }
+
+    #[test]
+    fn traced_points_are_printed_with_their_list() {
+        let list = [500, -200, 50];
+        let vector = traced(&list);
+        assert_eq!((vector.call as u8, vector.bytes), (b'T', vec![1, 244, 255, 56, 0, 50]));
+        assert_eq!(vector.printed, format!("disk 500 -200 1 5000\nleft {}\n", list_checksum(&list)));
+        let left = list_checksum(&[500, -200, 51]);
+        assert_eq!(traced(&[500, -200, 51]).printed, format!("refused 14\nleft {left}\n"));
     }
 
     #[test]
