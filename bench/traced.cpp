@@ -23,8 +23,8 @@ namespace {
 using namespace bench;
 
 // A cell runs at least so many rounds, and more until it has run so long in all.
-constexpr double SECONDS = 0.2;
-constexpr int LEAST_ROUNDS = 3;
+constexpr double SECONDS = 0.4;
+constexpr int LEAST_ROUNDS = 10;
 
 struct Size {
     size_t n, lists;

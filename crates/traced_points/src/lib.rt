@@ -7,7 +7,7 @@ use engine::Checked;
 use geometry::Disk;
 use tracings::TracedPoint;
 ghost use mathlib.Core.Path.{_≡_};
-ghost use Prim.Native.Nat.{_*_, _/_, _%_};
+ghost use Prim.Native.Nat.{_*_, _/_, _%_, _≤_};
 ghost use lib.IntN.{pos, _+ℤ_, _-ℤ_};
 ghost use lib.ListN.{length};
 ghost use Rattle.integers.specs.Order.{_≼_, between, Within};
@@ -105,6 +105,25 @@ fn solve(list: &[i16], room: &mut [i16]) -> Disk
     run.disk
 }
 
+// Most lists are short, and clearing room for the longest would take as long as their procedure.
+fn solve_short(list: &[i16]) -> Disk
+    requires { ⌜ Accepted (now list) ⌝ ∗ ⌜ length (now list) ≤ 96 ⌝ }
+    ensures { λ r. ⌜ r ≡ diskOf (allCorners (traced (now (list .entry)))) ⌝ }
+{
+    let mut room = [0i16; 256];
+    let m = 8 * (list.len() / 3);
+    solve(list, &mut room[..m])
+}
+
+fn solve_long(list: &[i16]) -> Disk
+    requires { ⌜ Accepted (now list) ⌝ }
+    ensures { λ r. ⌜ r ≡ diskOf (allCorners (traced (now (list .entry)))) ⌝ }
+{
+    let mut room = [0i16; 8192];
+    let m = 8 * (list.len() / 3);
+    solve(list, &mut room[..m])
+}
+
 // The smallest disk that holds the list's points wherever they may really be. The list is only read.
 pub fn smallest_disk_of_traced(list: &[i16]) -> Traced
     ensures answer { λ r. ⌜ outcome r ≡ tracedOf (now (list .entry)) ⌝ }
@@ -113,10 +132,10 @@ pub fn smallest_disk_of_traced(list: &[i16]) -> Traced
     match check(list) {
         Checked::Refused(r) => Traced::Refused(r),
         Checked::Passed => {
-            let mut room = [0i16; 8192];
-            let m = 8 * (list.len() / 3);
-            let disk = solve(list, &mut room[..m]);
-            Traced::Found(disk)
+            if list.len() <= 96 {
+                return Traced::Found(solve_short(list));
+            }
+            Traced::Found(solve_long(list))
         }
     }
 }

@@ -2,11 +2,9 @@
 -- refused as they say.
 use mathlib.Core.Path.{_≡_, refl, sym, ap, subst, _∙_}
 use mathlib.Core.List.{List}
-use native.Mathlib.Omega.{arith}
 use borrow.Author.Needs.{needs}
 use denote.Ref.{now}
 use lib.IntN.{ℤ}
-use lib.Seq.{length-take-le}
 use Rattle.answers.specs.Outcome.{given}
 use Rattle.disks.specs.Procedure.{diskOf}
 use Rattle.tracings.specs.Squares.{traced, allCorners}
@@ -36,23 +34,20 @@ enum-known-r c = search needs
 enum-told : tie.Need-enum-told
 enum-told c = search needs
 
-mul-m : tie.Need-mul-m
-mul-m c = search needs
-
-array-borrow-prefix-room : tie.Need-array-borrow-prefix-room
-array-borrow-prefix-room c = omega (arith, rules c .few)
-
-slice-aggregate-solve : tie.Need-slice-aggregate-solve
-slice-aggregate-solve c = sym (length-take-le _ _ (omega (arith, rules (c .before) .few)))
-
-solve-requires : tie.Need-solve-requires
-solve-requires c κs = (rules (c .before), length-take-le _ _ (omega (arith, rules (c .before) .few)))
+solve-short-requires : tie.Need-solve-short-requires
+solve-short-requires c κs = (rules (c .before), c .if1 .taken)
 
 returns : tie.Need-returns
-returns c = (sym (subst (Checks _) (c .before .r .given .1) (c .before .before .before .check .ensures)), refl)
+returns c = (ap given (c .solve-short .ensures) ∙ sym (passed (c .before .before)), refl)
+
+solve-long-requires : tie.Need-solve-long-requires
+solve-long-requires c κs = rules (c .before)
 
 returns-2 : tie.Need-returns-2
-returns-2 c = (ap given (c .before .solve .ensures) ∙ sym (passed (c .before .before .before)), refl)
+returns-2 c = (sym (subst (Checks _) (c .before .r .given .1) (c .before .before .before .check .ensures)), refl)
+
+returns-3 : tie.Need-returns-3
+returns-3 c = (ap given (c .solve-long .ensures) ∙ sym (passed (c .before .before)), refl)
 
 pub smallest-disk-of-traced-spec : {M : Type 1} → statement M
 smallest-disk-of-traced-spec =
@@ -61,9 +56,8 @@ smallest-disk-of-traced-spec =
     check-requires
     enum-known-r
     enum-told
-    mul-m
-    array-borrow-prefix-room
-    slice-aggregate-solve
-    solve-requires
+    solve-short-requires
     returns
-    returns-2)
+    solve-long-requires
+    returns-2
+    returns-3)
