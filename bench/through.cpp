@@ -5,28 +5,18 @@
 // Both take turns, round by round; a time is the least of the rounds, for one list. The answers are compared with the procedure by hand, with the
 // chosen points fixed; but not those of the longest lists that are refused, on which it would take seconds.
 #include <algorithm>
-#include <chrono>
 #include <cstdio>
 #include <cstdlib>
-#include <functional>
 
 #include "../include/volkhidar.h"
 #include "by_hand.hpp"
 #include "lists.hpp"
-
-namespace bench {
-std::vector<Entry>& entries() {
-    static std::vector<Entry> none;
-    return none;
-}
-}  // namespace bench
+#include "turns.hpp"
 
 namespace {
 using namespace bench;
 
-// A cell runs at least so many rounds, and more until it has run so long in all.
-constexpr double SECONDS = 0.2;
-constexpr int LEAST_ROUNDS = 3;
+constexpr Rounds ROUNDS{3, 0.2};
 
 struct Size {
     size_t n, lists;
@@ -90,13 +80,6 @@ bool is_right(const volkhidar_through_answer& answer, const List& list, Choice c
     return answer.refusal == 0 && disk == Disk{found.x, found.y, int64_t(found.e), int64_t(found.s)};
 }
 
-double least_seconds(double least, size_t lists, const std::function<void()>& run) {
-    auto start = std::chrono::steady_clock::now();
-    run();
-    std::chrono::duration<double> spent = std::chrono::steady_clock::now() - start;
-    return std::min(least, spent.count() / double(lists));
-}
-
 void compare(Kind kind, Size size, How how) {
     std::vector<List> lists;
     std::vector<Choice> choices;
@@ -105,20 +88,18 @@ void compare(Kind kind, Size size, How how) {
         choices.push_back(choose(how, lists.back()));
     }
     std::vector<volkhidar_through_answer> answers(lists.size());
-    double plain = 1e99, through = 1e99, spent = 0;
-    for (int round = 0; round < LEAST_ROUNDS || spent < SECONDS; round++) {
-        std::vector<List> copies = lists;
-        plain = least_seconds(plain, lists.size(), [&] {
+    std::vector<List> copies;
+    Times times = take_turns(
+        ROUNDS, lists.size(), [&] { copies = lists; },
+        [&] {
             for (List& list : copies) volkhidar_smallest_disk(&list.data()->x, 2 * list.size());
-        });
-        through = least_seconds(through, lists.size(), [&] {
+        },
+        [&] {
             for (size_t i = 0; i < lists.size(); i++) {
                 Choice c = choices[i];
                 answers[i] = volkhidar_smallest_disk_through(&lists[i].data()->x, 2 * lists[i].size(), {c.a.x, c.a.y}, {c.b.x, c.b.y});
             }
         });
-        spent += (plain + through) * double(lists.size());
-    }
     size_t refused = 0;
     for (size_t i = 0; i < lists.size(); i++) {
         refused += answers[i].refusal == 13;
@@ -127,8 +108,8 @@ void compare(Kind kind, Size size, How how) {
         std::fprintf(stderr, "another answer on %s, %zu points, %s\n", bench::name_of(kind).c_str(), size.n, name_of(how));
         std::exit(1);
     }
-    std::printf("| %s | %zu | %s | %zu of %zu | %.3g | %.3g | %.2f |\n", bench::name_of(kind).c_str(), size.n, name_of(how), refused, lists.size(), plain * 1e6,
-                through * 1e6, through / plain);
+    std::printf("| %s | %zu | %s | %zu of %zu | %.3g | %.3g | %.2f |\n", bench::name_of(kind).c_str(), size.n, name_of(how), refused, lists.size(),
+                times.first * 1e6, times.second * 1e6, times.second / times.first);
     std::fflush(stdout);
 }
 

@@ -4,27 +4,17 @@
 //
 // Both take turns, round by round; a time is the least of the rounds, for one list. Both must give the same disk.
 #include <algorithm>
-#include <chrono>
 #include <cstdio>
 #include <cstdlib>
-#include <functional>
 
 #include "../include/volkhidar.h"
 #include "lists.hpp"
-
-namespace bench {
-std::vector<Entry>& entries() {
-    static std::vector<Entry> none;
-    return none;
-}
-}  // namespace bench
+#include "turns.hpp"
 
 namespace {
 using namespace bench;
 
-// A cell runs at least so many rounds, and more until it has run so long in all.
-constexpr double SECONDS = 0.4;
-constexpr int LEAST_ROUNDS = 10;
+constexpr Rounds ROUNDS{10, 0.4};
 
 struct Size {
     size_t n, lists;
@@ -64,13 +54,6 @@ std::vector<int16_t> corners(const std::vector<int16_t>& list) {
     return points;
 }
 
-double least_seconds(double least, size_t lists, const std::function<void()>& run) {
-    auto start = std::chrono::steady_clock::now();
-    run();
-    std::chrono::duration<double> spent = std::chrono::steady_clock::now() - start;
-    return std::min(least, spent.count() / double(lists));
-}
-
 bool is_same(const volkhidar_disk& c, const volkhidar_disk& d) { return c.x == d.x && c.y == d.y && c.e == d.e && c.s == d.s; }
 
 void compare(Kind kind, Size size, Tolerances tolerances) {
@@ -79,25 +62,24 @@ void compare(Kind kind, Size size, Tolerances tolerances) {
         lists.push_back(traced(draw(kind, size.n, i), tolerances));
         squares.push_back(corners(lists.back()));
     }
-    std::vector<volkhidar_disk_answer> plain_answers(lists.size());
+    std::vector<volkhidar_disk_answer> plain(lists.size());
     std::vector<volkhidar_traced_answer> answers(lists.size());
-    double plain = 1e99, of_traced = 1e99, spent = 0;
-    for (int round = 0; round < LEAST_ROUNDS || spent < SECONDS; round++) {
-        auto copies = squares;
-        plain = least_seconds(plain, lists.size(), [&] {
-            for (size_t i = 0; i < copies.size(); i++) plain_answers[i] = volkhidar_smallest_disk(copies[i].data(), copies[i].size());
-        });
-        of_traced = least_seconds(of_traced, lists.size(), [&] {
+    auto copies = squares;
+    Times times = take_turns(
+        ROUNDS, lists.size(), [&] { copies = squares; },
+        [&] {
+            for (size_t i = 0; i < copies.size(); i++) plain[i] = volkhidar_smallest_disk(copies[i].data(), copies[i].size());
+        },
+        [&] {
             for (size_t i = 0; i < lists.size(); i++) answers[i] = volkhidar_smallest_disk_of_traced(lists[i].data(), lists[i].size());
         });
-        spent += (plain + of_traced) * double(lists.size());
-    }
     for (size_t i = 0; i < lists.size(); i++) {
-        if (answers[i].refusal == 0 && plain_answers[i].refusal == 0 && is_same(answers[i].disk, plain_answers[i].disk)) continue;
+        if (answers[i].refusal == 0 && plain[i].refusal == 0 && is_same(answers[i].disk, plain[i].disk)) continue;
         std::fprintf(stderr, "another answer on %s, %zu traced points, t %s\n", name_of(kind).c_str(), size.n, tolerances.name);
         std::exit(1);
     }
-    std::printf("| %s | %zu | %s | %.3g | %.3g | %.2f |\n", name_of(kind).c_str(), size.n, tolerances.name, plain * 1e6, of_traced * 1e6, of_traced / plain);
+    std::printf("| %s | %zu | %s | %.3g | %.3g | %.2f |\n", name_of(kind).c_str(), size.n, tolerances.name, times.first * 1e6,
+                times.second * 1e6, times.second / times.first);
     std::fflush(stdout);
 }
 

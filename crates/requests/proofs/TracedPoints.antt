@@ -29,6 +29,7 @@ use Rattle.tracings.specs.declared.TracedPoint.{TracedPoint}
 use Rattle.tracings.specs.Squares.{traced, corners, allCorners, place, asRead}
 use Rattle.tracings.specs.Tracings.{SmallestOver}
 use Rattle.tracings.proofs.Convex.{NoneNegative}
+use Rattle.tracings.proofs.Boxes.{places-in, corners-in}
 use Rattle.tracings.proofs.Smallest.{smallest-over, only-smallest, Exact, corners-place, place-corner, read-same}
 use Rattle.square_corners.proofs.FourCorners.{corners-boxed}
 use Rattle.traced_points.specs.Traced.{tracedOf}
@@ -71,7 +72,9 @@ module _ (l : List ℤ) where
     is-smallest = subst (SmallestOver ss) (sym is-disk) (over ss (kept .1 .0) (none-negative kept))
 
     within-limits : WithinLimits em d
-    within-limits = subst (WithinLimits em) (sym is-disk) (corner-limits ss (kept .1 .0) (corners-boxed ss (λ s i. checks.accepted-list l d h .0 .each s i .boxed)))
+    within-limits =
+        let each = checks.accepted-list l d h .0 .each in
+        subst (WithinLimits em) (sym is-disk) (corner-limits ss (kept .1 .0) (corners-boxed ss (λ s i. each s i .boxed)))
 
   smallest-given : {d : Disk} → AllKept (tracedRow l) → SmallestOver ss d → tracedOf l ≡ given d
   smallest-given k m =
@@ -167,6 +170,7 @@ module _ (l : List ℤ) (threes : length l % 3 ≡ 0) (few : length (traced l) �
 pub traced-points : TracedPoints
 traced-points = record {
   smallest = λ l d. ((λ h. (kept l h, is-smallest l h)), (λ a. smallest-given l (a .0) (a .1)));
+  in-box = λ s h. (places-in em s, corners-in em s h);
   plain = plainly;
   limits = λ l d h. within-limits l h;
 }

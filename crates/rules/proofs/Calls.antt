@@ -43,7 +43,8 @@ use Rattle.record_reader.specs.Reading.{diskIn, pointsIn, countIn, readOf}
 use Rattle.record_reader.proofs.RoundTrip.{read-written, accepted, written-again}
 use Rattle.preview.specs.Preview.{floats, previewOf}
 use Rattle.rules.specs.Row.{_unless_, eachOf, GoesBy}
-use Rattle.rules.specs.Rules.{Bytes, IsRecord, Names, loaderRow, sheetRow, engineRow, writerRow, readerRow, diskRow, appendRow, throughRow, pointRow, tracedRow}
+use Rattle.rules.specs.Rules.{Bytes, IsRecord, Names, loaderRow, sheetRow, engineRow, writerRow, readerRow, diskRow, appendRow, throughRow}
+use Rattle.rules.specs.Rules.{pointRow, tracedRow}
 use Rattle.rules.proofs.RowLaws.{row-end, row-step, row-then, row-through, row-none, row-first}
 use Rattle.geometry.proofs.EmBox.{inside, inside-test, all-inside, inside-all}
 use Rattle.rules.proofs.Recordables.{valid-recordable, recordable-valid}

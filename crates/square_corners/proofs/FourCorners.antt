@@ -70,7 +70,9 @@ module _ (s : TracedPoint) (h : Boxed s) where
 
   pub high-corner : (natAbs (s .x +ℤ s .t) ≤ largest em) × (natAbs (s .y +ℤ s .t) ≤ largest em)
   unfolding corners
-  high-corner = point-size em _ (test-true (inEmBox _) (box-members (corners s) h _ (List·Memᴰ·tail (List·Memᴰ·tail (List·Memᴰ·tail (List·Memᴰ·head refl))))))
+  high-corner =
+      let last = List·Memᴰ·tail (List·Memᴰ·tail (List·Memᴰ·tail (List·Memᴰ·head refl))) in
+      point-size em _ (test-true (inEmBox _) (box-members (corners s) h _ last))
 
 -- ---- all corners
 

@@ -3,10 +3,12 @@
 --   side           : in one coordinate, an end of an interval is at least as far from the centre as any place in it
 --   square-held    : a disk that holds the corners holds every rational point of the square
 --   corners-held   : and the other way round
+--   at-corners     : what holds of each whole place of a square holds of its corners
 --   holds-fits, fits-holds : a rational disk holds every possible tracing where and only where it holds `allCorners`
 use mathlib.Core.Path.{refl, sym, subst}
 use mathlib.Core.Logic.{_⊎_, inl, inr}
-use mathlib.Core.List.{List, [], _∷_, List·Memᴰ, List·Memᴰ·head, List·Memᴰ·tail, List·Memᴰ·not-nil, List·Memᴰ·append-cases, Memᴰ·append-left, Memᴰ·append-right}
+use mathlib.Core.List.{List, [], _∷_, List·Memᴰ, List·Memᴰ·head, List·Memᴰ·tail}
+use mathlib.Core.List.{List·Memᴰ·not-nil, List·Memᴰ·append-cases, Memᴰ·append-left, Memᴰ·append-right}
 use native.Mathlib.Omega.{arith}
 use lib.IntN.{ℤ, pos, _+ℤ_, _-ℤ_, _*ℤ_}
 use lib.Signed.{_≤ℤ_, _<ℤ_}
@@ -35,7 +37,8 @@ side u k x e l h he hl hh = go (≤-or-< (pos 0) (u *ℤ e -ℤ x *ℤ k))
   where
     go : (pos 0 ≤ℤ (u *ℤ e -ℤ x *ℤ k)) ⊎ ((u *ℤ e -ℤ x *ℤ k) <ℤ pos 0) → NoFarther u k x e l ⊎ NoFarther u k x e h
     go (inl d) = inr (nonneg (u ∷ k ∷ x ∷ e ∷ l ∷ h ∷ []) (sq (e *ℤ (h *ℤ k -ℤ u)) ⊞ nn 2 ⊠ (he ⊠ le hh ⊠ d)) (search poly depth 30) tt)
-    go (inr d) = inl (nonneg (u ∷ k ∷ x ∷ e ∷ l ∷ h ∷ []) (sq (e *ℤ (u -ℤ l *ℤ k)) ⊞ nn 2 ⊠ (he ⊠ le hl ⊠ le (≤-of-< d))) (search poly depth 30) tt)
+    go (inr d) =
+        inl (nonneg (u ∷ k ∷ x ∷ e ∷ l ∷ h ∷ []) (sq (e *ℤ (u -ℤ l *ℤ k)) ⊞ nn 2 ⊠ (he ⊠ le hl ⊠ le (≤-of-< d))) (search poly depth 30) tt)
 
 -- ---- a square
 
@@ -44,7 +47,8 @@ held-by : (b a e k x y m n u v : ℤ) → pos 0 ≤ℤ b
     → (b *ℤ (square (m *ℤ e -ℤ x) +ℤ square (n *ℤ e -ℤ y))) ≤ℤ (a *ℤ (e *ℤ e))
     → NoFarther u k x e m → NoFarther v k y e n
     → (b *ℤ (square (u *ℤ e -ℤ x *ℤ k) +ℤ square (v *ℤ e -ℤ y *ℤ k))) ≤ℤ (a *ℤ ((e *ℤ e) *ℤ (k *ℤ k)))
-held-by b a e k x y m n u v hb h hu hv = nonneg (b ∷ a ∷ e ∷ k ∷ x ∷ y ∷ m ∷ n ∷ u ∷ v ∷ []) (sq k ⊠ le h ⊞ hb ⊠ (le hu ⊞ le hv)) (search poly depth 30) tt
+held-by b a e k x y m n u v hb h hu hv =
+    nonneg (b ∷ a ∷ e ∷ k ∷ x ∷ y ∷ m ∷ n ∷ u ∷ v ∷ []) (sq k ⊠ le h ⊞ hb ⊠ (le hu ⊞ le hv)) (search poly depth 30) tt
 
 abbrev at : ℤ → ℤ → Point
 at x y = record { x = x; y = y }
@@ -63,7 +67,8 @@ module _ (c : RationalDisk) (s : TracedPoint) where
       Beside : ℤ → ℤ → ℤ → Type 0
       Beside u x m = NoFarther u (pos (p .k)) x (pos (c .e)) m
 
-      beside : (u x m : ℤ) → ((m -ℤ s .t) *ℤ pos (p .k)) ≤ℤ u → u ≤ℤ ((m +ℤ s .t) *ℤ pos (p .k)) → Beside u x (m -ℤ s .t) ⊎ Beside u x (m +ℤ s .t)
+      beside : (u x m : ℤ) → ((m -ℤ s .t) *ℤ pos (p .k)) ≤ℤ u → u ≤ℤ ((m +ℤ s .t) *ℤ pos (p .k))
+          → Beside u x (m -ℤ s .t) ⊎ Beside u x (m +ℤ s .t)
       beside u x m = side u (pos (p .k)) x (pos (c .e)) (m -ℤ s .t) (m +ℤ s .t) (nn (c .e))
 
       by : (m n : ℤ) → Held c (at m n) → Beside (p .x) (c .x) m → Beside (p .y) (c .y) n → HeldAt c p
@@ -78,10 +83,11 @@ module _ (c : RationalDisk) (s : TracedPoint) where
 
 -- ---- whole points, and the corners among them
 
-abbrev whole : ℤ → ℤ → RationalPoint
+abbrev pub whole : ℤ → ℤ → RationalPoint
 whole x y = record { x = x; y = y; k = 1; k-some = omega arith }
 
-whole-by : (b a e x y m n : ℤ) → (b *ℤ (square (m *ℤ e -ℤ x *ℤ pos 1) +ℤ square (n *ℤ e -ℤ y *ℤ pos 1))) ≤ℤ (a *ℤ ((e *ℤ e) *ℤ (pos 1 *ℤ pos 1)))
+whole-by : (b a e x y m n : ℤ)
+    → (b *ℤ (square (m *ℤ e -ℤ x *ℤ pos 1) +ℤ square (n *ℤ e -ℤ y *ℤ pos 1))) ≤ℤ (a *ℤ ((e *ℤ e) *ℤ (pos 1 *ℤ pos 1)))
     → (b *ℤ (square (m *ℤ e -ℤ x) +ℤ square (n *ℤ e -ℤ y))) ≤ℤ (a *ℤ (e *ℤ e))
 whole-by b a e x y m n h = nonneg (b ∷ a ∷ e ∷ x ∷ y ∷ m ∷ n ∷ []) (le h) (search poly depth 30) tt
 
@@ -105,25 +111,28 @@ module _ (x t : ℤ) (h : pos 0 ≤ℤ t) where
 reached : (s : TracedPoint) {m n : ℤ} → Reached (s .x) (s .t) m → Reached (s .y) (s .t) n → InSquare s (whole m n)
 reached s h k = record { from-left = h .0; to-right = h .1; from-low = k .0; to-high = k .1 }
 
-module _ (c : RationalDisk) (s : TracedPoint) (nn-t : pos 0 ≤ℤ s .t) where
-  corners-held : ((p : RationalPoint) → InSquare s p → HeldAt c p) → (q : Point) → In q (corners s) → Held c q
+module _ (s : TracedPoint) (nn-t : pos 0 ≤ℤ s .t) where
+  -- what holds of each whole place of the square holds of the corners
+  pub at-corners : (Z : Point → Type 0) → ((m n : ℤ) → InSquare s (whole m n) → Z (at m n)) → (q : Point) → In q (corners s) → Z q
   unfolding corners
-  corners-held h = also (Held c) (corner lx ly) (also (Held c) (corner lx hy) (also (Held c) (corner hx ly) (also (Held c) (corner hx hy) (none-of (Held c)))))
+  at-corners Z h =
+      also Z (h _ _ (reached s left low)) (also Z (h _ _ (reached s left high))
+      (also Z (h _ _ (reached s right low)) (also Z (h _ _ (reached s right high)) (none-of Z))))
     where
-      corner : {m n : ℤ} → Reached (s .x) (s .t) m → Reached (s .y) (s .t) n → Held c (at m n)
-      corner {m} {n} u v = whole-held c m n (h (whole m n) (reached s u v))
+      left : Reached (s .x) (s .t) (s .x -ℤ s .t)
+      left = lower (s .x) (s .t) nn-t
 
-      lx : Reached (s .x) (s .t) (s .x -ℤ s .t)
-      lx = lower (s .x) (s .t) nn-t
+      right : Reached (s .x) (s .t) (s .x +ℤ s .t)
+      right = upper (s .x) (s .t) nn-t
 
-      hx : Reached (s .x) (s .t) (s .x +ℤ s .t)
-      hx = upper (s .x) (s .t) nn-t
+      low : Reached (s .y) (s .t) (s .y -ℤ s .t)
+      low = lower (s .y) (s .t) nn-t
 
-      ly : Reached (s .y) (s .t) (s .y -ℤ s .t)
-      ly = lower (s .y) (s .t) nn-t
+      high : Reached (s .y) (s .t) (s .y +ℤ s .t)
+      high = upper (s .y) (s .t) nn-t
 
-      hy : Reached (s .y) (s .t) (s .y +ℤ s .t)
-      hy = upper (s .y) (s .t) nn-t
+  corners-held : (c : RationalDisk) → ((p : RationalPoint) → InSquare s p → HeldAt c p) → (q : Point) → In q (corners s) → Held c q
+  corners-held c h = at-corners (Held c) (λ m n w. whole-held c m n (h (whole m n) w))
 
 -- ---- all squares
 
@@ -147,8 +156,9 @@ module _ (c : RationalDisk) where
   all-corners : (ss : List TracedPoint) → NoneNegative ss → HoldsTracings c ss → (q : Point) → In q (allCorners ss) → Held c q
   unfolding allCorners
   all-corners [] n h q i = absurd (List·Memᴰ·not-nil i)
-  all-corners (s ∷ ss) n h q i = go (λ (k : In q (allCorners ss)). all-corners ss later (λ ps t p m. h (first ∷ ps) (next in-first t) p (List·Memᴰ·tail m)) q k)
-      (List·Memᴰ·append-cases (corners s) i)
+  all-corners (s ∷ ss) n h q i =
+      let behind : HoldsTracings c ss = λ ps t p m. h (first ∷ ps) (next in-first t) p (List·Memᴰ·tail m) in
+      go (λ (k : In q (allCorners ss)). all-corners ss later behind q k) (List·Memᴰ·append-cases (corners s) i)
     where
       nn-t : pos 0 ≼ s .t
       nn-t = n s (List·Memᴰ·head refl)
@@ -166,7 +176,7 @@ module _ (c : RationalDisk) where
       here p w = h (p ∷ read-all ss) (next w (read-tracing ss later)) p (List·Memᴰ·head refl)
 
       go : (In q (allCorners ss) → Held c q) → In q (corners s) ⊎ In q (allCorners ss) → Held c q
-      go rest (inl k) = corners-held c s nn-t here q k
+      go rest (inl k) = corners-held s nn-t c here q k
       go rest (inr k) = rest k
 
   pub holds-fits : (ss : List TracedPoint) → NoneNegative ss → HoldsTracings c ss → Fits c (allCorners ss) []

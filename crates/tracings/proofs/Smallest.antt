@@ -7,7 +7,8 @@
 --   read-same       : with every t zero the squares' corners are the points as they were read
 use mathlib.Core.Path.{_≡_, refl, sym, _∙_, ap, subst}
 use mathlib.Core.Logic.{_⊎_, inl, inr}
-use mathlib.Core.List.{List, [], _∷_, List·Memᴰ, List·Memᴰ·head, List·Memᴰ·tail, List·Memᴰ·not-nil, List·Memᴰ·append-cases, Memᴰ·append-left, Memᴰ·append-right}
+use mathlib.Core.List.{List, [], _∷_, List·Memᴰ, List·Memᴰ·head, List·Memᴰ·tail}
+use mathlib.Core.List.{List·Memᴰ·not-nil, List·Memᴰ·append-cases, Memᴰ·append-left, Memᴰ·append-right}
 use Prim.Native.Nat.{_*_}
 use lib.IntN.{ℤ, pos, _+ℤ_, _-ℤ_, _*ℤ_}
 use lib.Signed.{_≤ℤ_, _<ℤ_}
@@ -58,7 +59,8 @@ module _ (ss : List TracedPoint) (n : NoneNegative ss) (d : Disk) where
   over-corners : SmallestOver ss d → Smallest (allCorners ss) d
   unfolding holds
   over-corners m =
-      let own = holds-fits (rational d (m .proper)) ss n (λ ps t p i. scaled-at (pos (d .e)) (distanceAt d p) (pos (d .s)) (pos (p .k * p .k)) (m .holds-all ps t p i)) in
+      let own = holds-fits (rational d (m .proper)) ss n (λ ps t p i.
+      scaled-at (pos (d .e)) (distanceAt d p) (pos (d .s)) (pos (p .k * p .k)) (m .holds-all ps t p i)) in
       record {
         proper = m .proper;
         lowest = m .lowest;

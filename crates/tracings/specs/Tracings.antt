@@ -3,6 +3,7 @@
 --
 --   RationalPoint        == any point (x/k, y/k), with fractional coordinates
 --   InSquare s p         == p lies in the square of the traced point s: it may really be at p
+--   InBox l p            == p lies in the box of the limits l
 --   Tracing ss ps        == ps is a possible tracing of ss: for each traced point a point of its square
 --   distanceAt, Holds d p == document 01's inequality for the disk d, at a rational point and times k²
 --   farAt, reachAt       == the squared distance of p from a rational disk's centre, and its squared radius, both times e², k² and b
@@ -18,6 +19,7 @@ use lib.IntN.{ℤ, pos, _+ℤ_, _-ℤ_, _*ℤ_}
 use Rattle.divisors.specs.Divisor.{Reduced}
 use Rattle.integers.specs.Order.{_≼_}
 use Rattle.geometry.specs.declared.Disk.{Disk}
+use Rattle.geometry.specs.declared.Limits.{Limits}
 use Rattle.disks.specs.Smallest.{RationalDisk}
 use Rattle.tracings.specs.declared.TracedPoint.{TracedPoint}
 
@@ -33,6 +35,13 @@ pub record InSquare (s : TracedPoint) (p : RationalPoint) : Type 0 where
   pub to-right : p .x ≼ (s .x +ℤ s .t) *ℤ pos (p .k)
   pub from-low : (s .y -ℤ s .t) *ℤ pos (p .k) ≼ p .y
   pub to-high : p .y ≼ (s .y +ℤ s .t) *ℤ pos (p .k)
+
+-- left ≤ x/k ≤ right and foot ≤ y/k ≤ top
+pub record InBox (l : Limits) (p : RationalPoint) : Type 0 where
+  pub from-left : l .left *ℤ pos (p .k) ≼ p .x
+  pub to-right : p .x ≼ l .right *ℤ pos (p .k)
+  pub from-foot : l .foot *ℤ pos (p .k) ≼ p .y
+  pub to-top : p .y ≼ l .top *ℤ pos (p .k)
 
 pub data Tracing : List TracedPoint → List RationalPoint → Type 0 where
   none : Tracing [] []

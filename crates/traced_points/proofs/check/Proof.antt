@@ -15,7 +15,8 @@ use Rattle.traced_points.proofs.check.Statement.{statement}
 use Rattle.traced_points.proofs.check.Tie as tie
 
 -- behind the length the first faulty traced point decides
-by-points : (l : List ℤ) → length l % 3 ≡ 0 → (length l ≡ 0 → ⊥) → length l / 3 ≤ 1024 → (r : Checked) → verdict r ≡ firstFault (traced l) → Checks l r
+by-points : (l : List ℤ) → length l % 3 ≡ 0 → (length l ≡ 0 → ⊥) → length l / 3 ≤ 1024
+    → (r : Checked) → verdict r ≡ firstFault (traced l) → Checks l r
 by-points l threes some few Passed h = accepted l threes some few (sym h)
 by-points l threes some few (Refused r) h = refused-fault l threes some few (sym h)
 
@@ -32,7 +33,9 @@ check-points-requires : tie.Need-check-points-requires
 check-points-requires c κs = search needs
 
 returns-4 : tie.Need-returns-4
-returns-4 c = by-points _ (c .before .before .before .if1 .left) (c .before .before .if2 .left) (c .before .if3 .left) (c .check-points .result) (c .check-points .ensures)
+returns-4 c =
+    let few = c .before in
+    by-points _ (few .before .before .if1 .left) (few .before .if2 .left) (few .if3 .left) (c .check-points .result) (c .check-points .ensures)
 
 pub check-spec : {M : Type 1} → statement M
 check-spec = tie.close (tie.spec returns returns-2 returns-3 check-points-requires returns-4)
