@@ -29,7 +29,7 @@ fn is_tolerated(s: TracedPoint) -> bool
     integers::is_between(0, geometry::wide(s.t), 50)
 }
 
-// Whether z - t and z + t are both from low to high.
+// Whether z is from low + t to high - t.
 fn has_room(low: i64, z: i16, t: i16, high: i64) -> bool
     requires { ⌜ Within 32768 low × Within 32768 high ⌝ }
     ensures { λ r. ⌜ r ≡ between (low +ℤ t) z (high -ℤ t) ⌝ }
@@ -38,7 +38,7 @@ fn has_room(low: i64, z: i16, t: i16, high: i64) -> bool
     integers::is_between(low + w, geometry::wide(z), high - w)
 }
 
-// Whether the square of s lies in the em box: its middle then lies in the box that is narrower by t on each side.
+// Whether the square of s lies in the em box: so it is exactly where its middle lies in the box that is narrower by t on each side.
 fn is_boxed(s: TracedPoint) -> bool
     requires { ⌜ pos 0 ≼ s .t ⌝ }
     ensures { λ r. ⌜ r ≡ allInEmBox (corners s) ⌝ }
@@ -105,7 +105,7 @@ fn solve(list: &[i16], room: &mut [i16]) -> Disk
     run.disk
 }
 
-// Most lists are short, and clearing room for the longest would take as long as their procedure.
+// Most lists are short, and clearing room for the longest would take a good part of their time.
 fn solve_short(list: &[i16]) -> Disk
     requires { ⌜ Accepted (now list) ⌝ ∗ ⌜ length (now list) ≤ 96 ⌝ }
     ensures { λ r. ⌜ r ≡ diskOf (allCorners (traced (now (list .entry)))) ⌝ }
