@@ -135,7 +135,8 @@ same-sym (fin s m e) (fin t n d) g = sym g
 whole-same : (v w : Float) → SameNumber v w → wholeOf v ≡ wholeOf w
 whole-same v w e = go (whole-or-broken v) (whole-or-broken w)
   where
-    go : ((z : ℤ) × (wholeOf v ≡ given z)) ⊎ (wholeOf v ≡ refused 11) → ((z : ℤ) × (wholeOf w ≡ given z)) ⊎ (wholeOf w ≡ refused 11) → wholeOf v ≡ wholeOf w
+    go : ((z : ℤ) × (wholeOf v ≡ given z)) ⊎ (wholeOf v ≡ refused 11) → ((z : ℤ) × (wholeOf w ≡ given z)) ⊎ (wholeOf w ≡ refused 11)
+        → wholeOf v ≡ wholeOf w
     go (inl a) b = a .1 ∙ sym (stands-whole w (a .0) (stands-same v w (a .0) e (whole-stands v (a .0) (a .1))))
     go (inr a) (inl b) = stands-whole v (b .0) (stands-same w v (b .0) (same-sym v w e) (whole-stands w (b .0) (b .1))) ∙ sym (b .1)
     go (inr a) (inr b) = a ∙ sym b

@@ -83,6 +83,9 @@ module _ (l : List ℤ) where
 
 -- ---- with every t zero
 
+in-range : (t : ℤ) → t ≡ pos 0 → (pos 0 ≤ℤ t) × (t ≤ℤ pos 50)
+in-range t e = rw e (record { le = tt }, record { le = tt })
+
 module _ (l : List ℤ) (threes : length l % 3 ≡ 0) (few : length (traced l) ≤ 1024) (exact : Exact (traced l)) where
   abbrev P : List Point
   P = asRead (traced l)
@@ -111,9 +114,6 @@ module _ (l : List ℤ) (threes : length l % 3 ≡ 0) (few : length (traced l) �
   plain-kept : AllKept (engineRow (flat P)) → AllKept (tracedRow l)
   plain-kept k = (threes, (subst (λ (n : ℕ). 1 ≤ n) as-many (k .1 .0), (few, (each, tt))))
     where
-      in-range : (t : ℤ) → t ≡ pos 0 → (pos 0 ≤ℤ t) × (t ≤ℤ pos 50)
-      in-range t e = rw e (record { le = tt }, record { le = tt })
-
       each : (s : TracedPoint) → List·Memᴰ s (traced l) → AllKept (pointRow s)
       each s m =
           let here = k .1 .1 .1 .0 (place s) (subst (In (place s)) (sym (points-of-flat P)) (Memᴰ·map place m)) in
@@ -133,7 +133,7 @@ module _ (l : List ℤ) (threes : length l % 3 ≡ 0) (few : length (traced l) �
       there = subst (List·Memᴰ (f .item)) (sym (f .parted)) (Memᴰ·append-right (f .front) (List·Memᴰ·head refl))
 
       three : DueFirst (pointRow (f .item)) n → n ≡ 3
-      three (inl d) = absurd (d .0 (rw (exact (f .item) there) (record { le = tt }, record { le = tt })))
+      three (inl d) = absurd (d .0 (in-range (f .item .t) (exact (f .item) there)))
       three (inr (r, inl d)) = d .1
       three (inr (r, inr d)) = absurd (d .1)
   traced-number (inr (k, inr (j, inr (i, inr d)))) = absurd (d .1)

@@ -112,10 +112,11 @@ module _ {A : Type 0} (row : A → List Rule) where
   pub row-none : {B : Type 0} (b : B) → GoesBy (eachOf row [] ∷ []) (given b)
   row-none b = row-kept (eachOf row []) (λ a m. absurd (List·Memᴰ·not-nil m)) (λ n f. no-item (f .front) (f .back) (f .item) (f .parted)) (row-end b)
 
-  module _ (a : A) (xs : List A) where
-    all-kept : AllKept (row a) → ((b : A) → List·Memᴰ b xs → AllKept (row b)) → (b : A) → List·Memᴰ b (a ∷ xs) → AllKept (row b)
-    all-kept k h b m = elim (List·Memᴰ·cases-cons m) [ inl e ↦ subst (λ (c : A). AllKept (row c)) (sym e) k | inr i ↦ h b i ]
+  all-kept : (a : A) (xs : List A) → AllKept (row a) → ((b : A) → List·Memᴰ b xs → AllKept (row b))
+      → (b : A) → List·Memᴰ b (a ∷ xs) → AllKept (row b)
+  all-kept a xs k h b m = elim (List·Memᴰ·cases-cons m) [ inl e ↦ subst (λ (c : A). AllKept (row c)) (sym e) k | inr i ↦ h b i ]
 
+  module _ (a : A) (xs : List A) where
     -- the first item is broken, or it keeps its row and the first broken one is behind it
     broken-here : {n : ℕ} → DueFirst (row a) n → FirstBroken row (a ∷ xs) n
     broken-here d = record { front = []; item = a; back = xs; parted = refl; kept = λ b m. absurd (List·Memᴰ·not-nil m); due = d }
@@ -126,7 +127,7 @@ module _ {A : Type 0} (row : A → List Rule) where
       item = f .item;
       back = f .back;
       parted = ap {B = List A} (λ l. a ∷ l) (f .parted);
-      kept = λ b m. elim (List·Memᴰ·cases-cons m) [ inl e ↦ subst (λ (c : A). AllKept (row c)) (sym e) k | inr i ↦ f .kept b i ];
+      kept = all-kept a (f .front) k (f .kept);
       due = f .due;
     }
 
@@ -148,7 +149,7 @@ module _ {A : Type 0} (row : A → List Rule) where
     row-first g = row-same (λ n. (to n, from n)) (kept-to, kept-from) g
       where
         kept-to : AllKept (row a ++ (eachOf row xs ∷ [])) → AllKept (eachOf row (a ∷ xs) ∷ [])
-        kept-to k = let h = kept-append (row a) (eachOf row xs ∷ []) .0 k in (all-kept (h .0) (h .1 .0), tt)
+        kept-to k = let h = kept-append (row a) (eachOf row xs ∷ []) .0 k in (all-kept a xs (h .0) (h .1 .0), tt)
 
         kept-from : AllKept (eachOf row (a ∷ xs) ∷ []) → AllKept (row a ++ (eachOf row xs ∷ []))
         kept-from k = kept-append (row a) (eachOf row xs ∷ []) .1 (k .0 a (List·Memᴰ·head refl), ((λ b m. k .0 b (List·Memᴰ·tail m)), tt))

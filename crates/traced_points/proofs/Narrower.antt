@@ -1,65 +1,43 @@
--- A square lies in a box exactly where its middle lies in the box that is narrower by t on each side.
+-- A square lies in the em box exactly where its middle lies in the box that is narrower by t on each side.
 --
 --   narrower l t  == this box
 --   middle-in     : so it is, by the tests
 use mathlib.Core.Path.{_≡_, refl}
 use mathlib.Core.List.{[], _∷_, List·Memᴰ·head, List·Memᴰ·tail}
-use lib.IntN.{ℤ, pos, _+ℤ_, _-ℤ_}
+use lib.IntN.{ℤ, pos, _+ℤ_, _-ℤ_, _*ℤ_}
 use lib.Signed.{_≤ℤ_}
 use Rattle.integers.proofs.Tests.{same-test, test-true, true-test}
 use Rattle.integers.proofs.Ring.{poly}
-use Rattle.integers.proofs.Order.{nonneg, le, nn, _⊞_, _⊠_}
+use Rattle.integers.proofs.Order.{nonneg, le, _⊞_}
 use Rattle.geometry.specs.declared.Point.{Point}
 use Rattle.geometry.specs.declared.Limits.{Limits}
 use Rattle.geometry.specs.EmBox.{em, inBox, Inside, allInEmBox}
 use Rattle.geometry.proofs.EmBox.{inside, inside-test, all-inside, inside-all}
 use Rattle.point_lists.specs.Sets.{In}
-use Rattle.point_lists.proofs.Sets.{none-of, also}
 use Rattle.tracings.specs.declared.TracedPoint.{TracedPoint}
 use Rattle.tracings.specs.Squares.{corners, place}
+use Rattle.tracings.proofs.Convex.{at-corners}
 
 abbrev pub narrower : Limits → ℤ → Limits
 narrower l t = record { left = l .left +ℤ t; right = l .right -ℤ t; foot = l .foot +ℤ t; top = l .top -ℤ t; scale = l .scale; square = l .square }
 
 -- ---- one coordinate
 
--- z lies from a to b
-record From (a b z : ℤ) : Type 0 where
-  low : a ≤ℤ z
-  high : z ≤ℤ b
+module _ (a z t : ℤ) where
+  up : a ≤ℤ (z -ℤ t) → (a +ℤ t) ≤ℤ z
+  up h = nonneg (a ∷ z ∷ t ∷ []) (le h) (search poly depth 30) tt
 
-module _ {a b : ℤ} (z t : ℤ) where
-  -- both ends of an interval do, so that its middle does in the narrower one
-  middle : From a b (z -ℤ t) → From a b (z +ℤ t) → From (a +ℤ t) (b -ℤ t) z
-  middle l h = record {
-    low = nonneg (z ∷ t ∷ a ∷ []) (le (l .low)) (search poly depth 30) tt;
-    high = nonneg (z ∷ t ∷ b ∷ []) (le (h .high)) (search poly depth 30) tt;
-  }
+  down : (z +ℤ t) ≤ℤ a → z ≤ℤ (a -ℤ t)
+  down h = nonneg (a ∷ z ∷ t ∷ []) (le h) (search poly depth 30) tt
 
-  module _ (t-nn : pos 0 ≤ℤ t) (m : From (a +ℤ t) (b -ℤ t) z) where
-    lower : From a b (z -ℤ t)
-    lower = record {
-      low = nonneg (z ∷ t ∷ a ∷ []) (le (m .low)) (search poly depth 30) tt;
-      high = nonneg (z ∷ t ∷ b ∷ []) (le (m .high) ⊞ nn 2 ⊠ t-nn) (search poly depth 30) tt;
-    }
+  -- a whole place m from z − t on, and up to z + t
+  above : (m : ℤ) → (a +ℤ t) ≤ℤ z → ((z -ℤ t) *ℤ pos 1) ≤ℤ m → a ≤ℤ m
+  above m h w = nonneg (a ∷ z ∷ t ∷ m ∷ []) (le h ⊞ le w) (search poly depth 30) tt
 
-    upper : From a b (z +ℤ t)
-    upper = record {
-      low = nonneg (z ∷ t ∷ a ∷ []) (le (m .low) ⊞ nn 2 ⊠ t-nn) (search poly depth 30) tt;
-      high = nonneg (z ∷ t ∷ b ∷ []) (le (m .high)) (search poly depth 30) tt;
-    }
+  below : (m : ℤ) → z ≤ℤ (a -ℤ t) → m ≤ℤ ((z +ℤ t) *ℤ pos 1) → m ≤ℤ a
+  below m h w = nonneg (a ∷ z ∷ t ∷ m ∷ []) (le h ⊞ le w) (search poly depth 30) tt
 
 -- ---- the square
-
-module _ (l : Limits) {p : Point} where
-  across : Inside l p → From (l .left) (l .right) (p .x)
-  across i = record { low = i .from-left; high = i .to-right }
-
-  upwards : Inside l p → From (l .foot) (l .top) (p .y)
-  upwards i = record { low = i .from-foot; high = i .to-top }
-
-  within : From (l .left) (l .right) (p .x) → From (l .foot) (l .top) (p .y) → Inside l p
-  within a u = record { from-left = a .low; to-right = a .high; from-foot = u .low; to-top = u .high }
 
 module _ (s : TracedPoint) (h : pos 0 ≤ℤ s .t) where
   to-middle : ((p : Point) → In p (corners s) → Inside em p) → Inside (narrower em (s .t)) (place s)
@@ -67,19 +45,20 @@ module _ (s : TracedPoint) (h : pos 0 ≤ℤ s .t) where
   to-middle f =
       let a = f _ (List·Memᴰ·head refl) in
       let b = f _ (List·Memᴰ·tail (List·Memᴰ·tail (List·Memᴰ·tail (List·Memᴰ·head refl)))) in
-      within (narrower em (s .t)) (middle (s .x) (s .t) (across em a) (across em b)) (middle (s .y) (s .t) (upwards em a) (upwards em b))
+      record {
+        from-left = up (em .left) (s .x) (s .t) (a .from-left);
+        to-right = down (em .right) (s .x) (s .t) (b .to-right);
+        from-foot = up (em .foot) (s .y) (s .t) (a .from-foot);
+        to-top = down (em .top) (s .y) (s .t) (b .to-top);
+      }
 
   to-corners : Inside (narrower em (s .t)) (place s) → (p : Point) → In p (corners s) → Inside em p
-  unfolding corners
-  to-corners i =
-      let x = across (narrower em (s .t)) i in
-      let y = upwards (narrower em (s .t)) i in
-      let left = lower (s .x) (s .t) h x in
-      let right = upper (s .x) (s .t) h x in
-      let low = lower (s .y) (s .t) h y in
-      let high = upper (s .y) (s .t) h y in
-      also (Inside em) (within em left low) (also (Inside em) (within em left high)
-      (also (Inside em) (within em right low) (also (Inside em) (within em right high) (none-of (Inside em)))))
+  to-corners i = at-corners s h (Inside em) (λ m n w. record {
+    from-left = above (em .left) (s .x) (s .t) m (i .from-left) (w .from-left);
+    to-right = below (em .right) (s .x) (s .t) m (i .to-right) (w .to-right);
+    from-foot = above (em .foot) (s .y) (s .t) n (i .from-foot) (w .from-low);
+    to-top = below (em .top) (s .y) (s .t) n (i .to-top) (w .to-high);
+  })
 
   pub middle-in : inBox (narrower em (s .t)) (place s) ≡ allInEmBox (corners s)
   middle-in = same-test (inBox (narrower em (s .t)) (place s)) (allInEmBox (corners s))
