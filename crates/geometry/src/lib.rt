@@ -1,6 +1,7 @@
 // Points, disks and support sets; the em box; points in a list of numbers.
 ghost use mathlib.Core.Path.{_≡_};
 ghost use Prim.Native.Nat.{_+_, _*_, _≤_};
+ghost use lib.IntN.{_-ℤ_};
 ghost use lib.ListN.{length};
 ghost use Rattle.geometry.specs.EmBox.{em, inBox, inEmBox};
 ghost use Rattle.geometry.specs.Points.{pointAt};
@@ -44,6 +45,13 @@ pub fn wide(v: i16) -> i64
     ensures { λ r. ⌜ r ≡ v ⌝ }
 {
     v as i64
+}
+
+// b − a
+pub fn minus(b: i16, a: i16) -> i64
+    ensures { λ r. ⌜ r ≡ b -ℤ a ⌝ }
+{
+    wide(b) - wide(a)
 }
 
 // The em box, and a number to the left of it.

@@ -1,9 +1,7 @@
 -- The machine's numbers in the tests of this crate.
 --
 --   furthest        == how far v·e and c can be apart, for a coordinate v and a centre c/e in the em box
---   wide-value      : a coordinate as `wide` gives it, with its bound, for the laws of signed numbers
 --   stored-value    : a number as the machine reads it back, with a bound; stored-small: the bound is kept
---   minus-value     : a difference of coordinates as `minus` gives it
 --   offset-value    : v·e − c as `offset` gives it
 --   midway-read     : `midway` of numbers that the machine reads back
 --   limits-small    : numbers within the limits of an answer are small
@@ -36,12 +34,6 @@ use Rattle.support_tests.specs.Tests.{midway, SmallPair, SmallDisk}
 -- how far v·e and c can be apart: the side of the em box, times the largest e
 abbrev pub furthest : ℕ
 furthest = natAbs (side em) * em .scale
-
-abbrev pub wide-value : (z : ℤ) {r : ℤ} → SFits w16 z → r ≡ toZ w16 (ofZ w16 z) → Value (toZ w64 (ofZ w64 r))
-wide-value z f e = record { val = z; bound = 2 ^ 15; ok = true; is = λ t. widened z f e; below = λ t. natAbs-le z (f .sfits) }
-
-abbrev pub minus-value : (b a : ℤ) {r : ℤ} → SFits w16 b → SFits w16 a → r ≡ toZ w16 (ofZ w16 b) -ℤ toZ w16 (ofZ w16 a) → Value (toZ w64 (ofZ w64 r))
-minus-value b a f g e = v-back w64 (v-eq e (v-add (v-fits f) (v-neg (v-fits g))))
 
 abbrev pub stored-value : (z : ℤ) {B : ℕ} → natAbs z ≤ B → Value (toZ w64 (ofZ w64 z))
 stored-value z h = v-back w64 {z = z} (v-abs {z = z} h)

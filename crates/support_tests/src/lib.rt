@@ -41,18 +41,11 @@ pub fn is_opposite(disk: Disk, p: Point, q: Point) -> bool
     is_midway(p.x, q.x, disk.e, disk.x) && is_midway(p.y, q.y, disk.e, disk.y)
 }
 
-// b − a
-fn minus(b: i16, a: i16) -> i64
-    ensures { λ r. ⌜ r ≡ b -ℤ a ⌝ }
-{
-    geometry::wide(b) - geometry::wide(a)
-}
-
 // Whether the angle at a in the triangle a b c is acute.
 fn is_acute_at(a: Point, b: Point, c: Point) -> bool
     ensures { λ r. ⌜ r ≡ acuteAt a b c ⌝ }
 {
-    0 < minus(b.x, a.x) * minus(c.x, a.x) + minus(b.y, a.y) * minus(c.y, a.y)
+    0 < geometry::minus(b.x, a.x) * geometry::minus(c.x, a.x) + geometry::minus(b.y, a.y) * geometry::minus(c.y, a.y)
 }
 
 // Whether the triangle p q r has acute angles only.

@@ -6,8 +6,8 @@ use lib.Signed.{ltZ}
 use mir.Syntax.{w64}
 use mir.Val.{toZ, ofZ}
 use Rattle.integers.proofs.Bounds.{Value, v-add, v-mul, v-back, v-lit, fits, ap-values}
+use Rattle.geometry.proofs.Coordinates.{minus-value}
 use Rattle.support_tests.specs.Tests.{acuteAt}
-use Rattle.support_tests.proofs.Numbers.{minus-value}
 use Rattle.support_tests.proofs.is_acute_at.Statement.{statement}
 use Rattle.support_tests.proofs.is_acute_at.Tie as tie
 

@@ -6,7 +6,8 @@ use mir.Syntax.{w64}
 use mir.Val.{toZ, ofZ}
 use Rattle.integers.proofs.Bounds.{Value, v-add, v-mul, v-back, v-lit, v-nat, fits, eq-test}
 use Rattle.support_tests.specs.Tests.{midway}
-use Rattle.support_tests.proofs.Numbers.{wide-value, stored-value}
+use Rattle.geometry.proofs.Coordinates.{wide-value}
+use Rattle.support_tests.proofs.Numbers.{stored-value}
 use Rattle.support_tests.proofs.is_midway.Statement.{statement}
 use Rattle.support_tests.proofs.is_midway.Tie as tie
 

@@ -4,7 +4,8 @@ use lib.IntN.{_-ℤ_, _*ℤ_}
 use mir.Syntax.{w64}
 use mir.Val.{toZ, ofZ}
 use Rattle.integers.proofs.Bounds.{Value, v-add, v-neg, v-mul, v-back, v-nat, fits, reads-as}
-use Rattle.support_tests.proofs.Numbers.{wide-value, stored-value}
+use Rattle.geometry.proofs.Coordinates.{wide-value}
+use Rattle.support_tests.proofs.Numbers.{stored-value}
 use Rattle.support_tests.proofs.offset.Statement.{statement}
 use Rattle.support_tests.proofs.offset.Tie as tie
 

@@ -1,12 +1,12 @@
--- `support_tests::minus` meets its contract: the difference of two numbers of 16 bits fits 64.
+-- `geometry::minus` meets its contract: the difference of two numbers of 16 bits fits 64.
 use borrow.Author.Needs.{needs}
 use lib.IntN.{_-ℤ_}
 use mir.Syntax.{w64}
 use mir.Val.{toZ, ofZ}
 use Rattle.integers.proofs.Bounds.{Value, v-add, v-neg, v-back, fits, reads-as}
-use Rattle.support_tests.proofs.Numbers.{wide-value}
-use Rattle.support_tests.proofs.minus.Statement.{statement}
-use Rattle.support_tests.proofs.minus.Tie as tie
+use Rattle.geometry.proofs.Coordinates.{wide-value}
+use Rattle.geometry.proofs.minus.Statement.{statement}
+use Rattle.geometry.proofs.minus.Tie as tie
 
 abbrev difference : (c : tie.After-wide2) → Value (toZ w64 (ofZ w64 (c .before .wide .result)) -ℤ toZ w64 (ofZ w64 (c .wide2 .result)))
 difference c =

@@ -1,0 +1,90 @@
+-- The rising and the falling order of points are directions for a chain.
+--
+--   Rises, Falls p q               == p comes before q, and after q
+--   rising-way, falling-way        : what left turns along them say of one another
+use mathlib.Core.Path.{_≡_, refl, sym}
+use mathlib.Core.List.{List, [], _∷_}
+use lib.Dec.{T}
+use lib.IntN.{ℤ, pos, _+ℤ_, _-ℤ_, _*ℤ_}
+use Rattle.integers.specs.Order.{_≼_}
+use Rattle.integers.proofs.Ring.{poly}
+use Rattle.integers.proofs.Order.{nonneg, le, _⊞_}
+use Rattle.geometry.specs.declared.Point.{Point}
+use Rattle.geometry.specs.Order.{before}
+use Rattle.point_lists.proofs.Order.{before-trans, before-not-equal}
+use Rattle.hull.specs.Hull.{cross}
+use Rattle.hull.proofs.Turns.{Forward, forward, follows, Ordered, ordered}
+use Rattle.hull.proofs.Pushed.{Compared, less, same, more, Direction}
+use Rattle.hull.proofs.Turns as Turns
+
+abbrev pub Rises : Point → Point → Type 0
+Rises p q = T (before p q)
+
+abbrev pub Falls : Point → Point → Type 0
+Falls p q = T (before q p)
+
+-- the turn of two steps, each the difference of two points
+abbrev turn : Point → Point → Point → Point → ℤ
+turn a b c d = (b .x -ℤ a .x) *ℤ (d .y -ℤ c .y) -ℤ (b .y -ℤ a .y) *ℤ (d .x -ℤ c .x)
+
+along : (a b c d e f : Point) → T (before a b) → T (before c d) → T (before e f) → pos 0 ≼ turn a b c d → pos 0 ≼ turn c d e f → pos 0 ≼ turn a b e f
+along a b c d e f s t u = follows (b .x -ℤ a .x) (b .y -ℤ a .y) (d .x -ℤ c .x) (d .y -ℤ c .y) (f .x -ℤ e .x) (f .y -ℤ e .y) (forward a b s) (forward c d t)
+    (forward e f u)
+
+module _ (p q r s : Point) where
+  abbrev coordinates : List ℤ
+  coordinates = p .x ∷ p .y ∷ q .x ∷ q .y ∷ r .x ∷ r .y ∷ s .x ∷ s .y ∷ []
+
+  later-up : Rises p q → Rises q r → Rises r s → pos 0 ≼ cross p q r → pos 0 ≼ cross q r s → pos 0 ≼ cross p r s
+  later-up a b c h k = nonneg coordinates (along p q q r r s a b c (nonneg coordinates h (search poly depth 30) tt) (nonneg coordinates k (search poly depth 30) tt) ⊞ k)
+      (search poly depth 30) tt
+
+  later-down : Falls p q → Falls q r → Falls r s → pos 0 ≼ cross p q r → pos 0 ≼ cross q r s → pos 0 ≼ cross p r s
+  later-down a b c h k = nonneg coordinates (along q p r q s r a b c (nonneg coordinates h (search poly depth 30) tt) (nonneg coordinates k (search poly depth 30) tt) ⊞ k)
+      (search poly depth 30) tt
+
+  ahead-up : Rises p q → Rises q r → Rises q s → pos 0 ≼ cross p q r → pos 0 ≼ cross q r s → pos 0 ≼ cross p q s
+  ahead-up a b c h k = nonneg coordinates (along p q q r q s a b c (nonneg coordinates h (search poly depth 30) tt) (nonneg coordinates k (search poly depth 30) tt))
+      (search poly depth 30) tt
+
+  ahead-down : Falls p q → Falls q r → Falls q s → pos 0 ≼ cross p q r → pos 0 ≼ cross q r s → pos 0 ≼ cross p q s
+  ahead-down a b c h k = nonneg coordinates (along q p r q s q a b c (nonneg coordinates h (search poly depth 30) tt) (nonneg coordinates k (search poly depth 30) tt))
+      (search poly depth 30) tt
+
+  behind-up : Rises p r → Rises q r → Rises s r → cross p q r ≼ pos 0 → pos 0 ≼ cross q r s → pos 0 ≼ cross p r s
+  behind-up a b c h k = nonneg coordinates
+      (along s r q r p r c b a (nonneg coordinates k (search poly depth 30) tt) (nonneg coordinates (le h) (search poly depth 30) tt)) (search poly depth 30) tt
+
+  behind-down : Falls p r → Falls q r → Falls s r → cross p q r ≼ pos 0 → pos 0 ≼ cross q r s → pos 0 ≼ cross p r s
+  behind-down a b c h k = nonneg coordinates
+      (along r s r q r p c b a (nonneg coordinates k (search poly depth 30) tt) (nonneg coordinates (le h) (search poly depth 30) tt)) (search poly depth 30) tt
+
+compare-up : (p q : Point) → Ordered p q → Compared Rises p q
+compare-up p q (Turns.less h) = less h
+compare-up p q (Turns.same e) = same e
+compare-up p q (Turns.more h) = more h
+
+compare-down : (p q : Point) → Ordered p q → Compared Falls p q
+compare-down p q (Turns.less h) = more h
+compare-down p q (Turns.same e) = same e
+compare-down p q (Turns.more h) = less h
+
+pub rising-way : Direction Rises
+rising-way = record {
+  irrefl = λ p h. before-not-equal p p h refl;
+  trans = before-trans;
+  compare = λ p q. compare-up p q (ordered p q);
+  later = later-up;
+  ahead = ahead-up;
+  behind = behind-up;
+}
+
+pub falling-way : Direction Falls
+falling-way = record {
+  irrefl = λ p h. before-not-equal p p h refl;
+  trans = λ p q r h k. before-trans r q p k h;
+  compare = λ p q. compare-down p q (ordered p q);
+  later = later-down;
+  ahead = ahead-down;
+  behind = behind-down;
+}

@@ -1,0 +1,12 @@
+pub mod Turns
+pub mod Spanned
+pub mod Convex
+pub mod SameDisk
+pub mod Unique
+pub mod Pushed
+pub mod Directions
+pub mod Joined
+pub mod HullOf
+pub mod Different
+pub mod Columns
+pub mod TwoSides

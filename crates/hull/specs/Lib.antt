@@ -1,0 +1,3 @@
+-- The convex hull of a list of points, by its property and as a definition that computes.
+pub mod Hull
+pub mod Chains

@@ -1,0 +1,1 @@
+// The convex hull of a list of points: definitions and theory alone.
