@@ -45,7 +45,9 @@ pub fn is_opposite(disk: Disk, p: Point, q: Point) -> bool
 fn is_acute_at(a: Point, b: Point, c: Point) -> bool
     ensures { λ r. ⌜ r ≡ acuteAt a b c ⌝ }
 {
-    0 < geometry::minus(b.x, a.x) * geometry::minus(c.x, a.x) + geometry::minus(b.y, a.y) * geometry::minus(c.y, a.y)
+    0
+        < geometry::minus(b.x, a.x) * geometry::minus(c.x, a.x)
+            + geometry::minus(b.y, a.y) * geometry::minus(c.y, a.y)
 }
 
 // Whether the triangle p q r has acute angles only.
