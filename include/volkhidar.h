@@ -99,6 +99,8 @@ typedef struct {
 
 typedef volkhidar_load_answer volkhidar_append_answer;
 
+typedef volkhidar_load_answer volkhidar_hull_answer;
+
 typedef struct {
     uint64_t refusal;
     uint64_t start, length;
@@ -183,6 +185,16 @@ volkhidar_through_answer volkhidar_smallest_disk_through(const int16_t *list, si
  * faulty traced point, by 14, then 3 where its square leaves the em box.
  */
 volkhidar_traced_answer volkhidar_smallest_disk_of_traced(const int16_t *list, size_t list_length);
+
+/*
+ * Reduces `list`, x and y by turns, to the corners of the convex hull of its points, no three of them in a row. They go to the front,
+ * counterclockwise (y goes upward) from the least by x, then y; all further numbers of the list become 0. `count` is how many were kept,
+ * so the first 2 * count numbers are theirs. Points in a row keep the two ends, the least first; a lone point, repeated or not, is kept
+ * itself. volkhidar_smallest_disk of the first 2 * count numbers gives the disk and support set that it gives for the full list, so whole
+ * radius, preview and record are those of the full list too; the test count is that of the kept points.
+ * Refusals, in this order: 9 for an odd length, 5, 4, 3; the list is then unchanged.
+ */
+volkhidar_hull_answer volkhidar_reduce_to_hull(int16_t *list, size_t list_length);
 
 /*
  * The radius to cut with, a whole number: the least R with R^2 e^2 greater than s. The cut, the circle of radius R about the disk's

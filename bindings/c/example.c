@@ -1,12 +1,14 @@
 /*
  * The way of a letter through the library: a description is read, its smallest disk worked out, and a record written and read back.
- * Then the same letter from a drawing program's own values, another letter's disk turned against a stop, and a hand-traced letter.
+ * Then the same letter from a drawing program's own values, another letter's disk turned against a stop, a hand-traced letter, and a
+ * scanned outline that is reduced to its hull.
  *
  *   bindings/c/run      builds and runs it on letter F of the papers
  *   bindings/c/run -    reads a description from standard input
  */
 #include <inttypes.h>
 #include <stdio.h>
+#include <string.h>
 
 #include "../../include/volkhidar.h"
 
@@ -98,6 +100,30 @@ static int work_out_traced(void) {
     return 0;
 }
 
+/*
+ * A scanned outline with points on its sides and inside: the four corners of its hull are kept, and their disk is that of all points.
+ * A list that ends in the middle of a point is refused.
+ */
+static int work_out_hull(void) {
+    int16_t list[] = {4, 0, 8, 6, 3, 2, 0, 0, 8, 3, 0, 6, 8, 0, 5, 6};
+    const size_t length = sizeof list / sizeof list[0];
+    volkhidar_disk_answer all = volkhidar_smallest_disk(list, length);
+    if (all.refusal) return refused(all.refusal);
+
+    volkhidar_hull_answer hull = volkhidar_reduce_to_hull(list, length);
+    if (hull.refusal) return refused(hull.refusal);
+    printf("kept %" PRIu64 "\nhull", hull.count);
+    for (uint64_t i = 0; i < 2 * hull.count; i++) printf(" %d", list[i]);
+    printf("\n");
+
+    volkhidar_disk_answer kept = volkhidar_smallest_disk(list, 2 * hull.count);
+    if (kept.refusal) return refused(kept.refusal);
+    print_answer(&kept);
+    printf("same disk %s\n", memcmp(&kept.disk, &all.disk, sizeof all.disk) == 0 ? "yes" : "no");
+    refused(volkhidar_reduce_to_hull(list, length - 1).refusal);
+    return 0;
+}
+
 int main(int argc, char **argv) {
     static uint8_t text[VOLKHIDAR_MOST_BYTES + 1];
     (void)argv;
@@ -105,5 +131,5 @@ int main(int argc, char **argv) {
         return work_out(text, fread(text, 1, sizeof text, stdin));
     }
     return work_out((const uint8_t *)letter_f, sizeof letter_f - 1) || work_out_drawing() || work_out_against_stop() ||
-           work_out_traced();
+           work_out_traced() || work_out_hull();
 }

@@ -207,6 +207,43 @@ pub fn smallest_disk_of_traced(list: &[i16]) -> Result<Disk, Refusal> {
     Ok(answer.disk)
 }
 
+/// Reduces the list, x and y by turns, to the corners of the convex hull of its points, no three of them in a row, and answers how many
+/// were kept. They go to the front of the list, counterclockwise (y goes upward) from the least by x, then y; all further numbers of the
+/// list become 0. Points in a row keep the two ends, the least first; a lone point, repeated or not, is kept itself.
+///
+/// [`smallest_disk`] of the kept points gives the disk and the support set of the full list, so [`whole_radius`], [`preview`] and
+/// [`write_record`] give what they give for it; the test count is that of the kept points.
+///
+/// Refuses, in this order: [`Refusal::OddLength`], [`Refusal::NoPoint`], [`Refusal::TooMany`], [`Refusal::OutsideBox`].
+///
+/// ```
+/// use volkhidar::{reduce_to_hull, smallest_disk, Refusal};
+///
+/// // (4, 0) is on a side, (3, 2) inside, and (8, 6) is there twice
+/// let mut list = [8, 6, 4, 0, 0, 0, 3, 2, 8, 0, 8, 6];
+/// let whole = smallest_disk(&mut list.clone())?;
+/// let count = reduce_to_hull(&mut list)?;
+/// assert_eq!(count, 3);
+/// assert_eq!(list, [0, 0, 8, 0, 8, 6, 0, 0, 0, 0, 0, 0]);
+///
+/// let kept = smallest_disk(&mut list[..2 * count])?;
+/// assert_eq!((kept.disk, kept.support), (whole.disk, whole.support));
+///
+/// let mut row = [2, 2, 3, 3, 1, 1, 2, 2];
+/// assert_eq!(reduce_to_hull(&mut row), Ok(2));
+/// assert_eq!(row, [1, 1, 3, 3, 0, 0, 0, 0]);
+///
+/// let mut outside = [7, 7, 7, 751];
+/// assert_eq!(reduce_to_hull(&mut outside), Err(Refusal::OutsideBox));
+/// assert_eq!(outside, [7, 7, 7, 751]);
+/// # Ok::<(), Refusal>(())
+/// ```
+pub fn reduce_to_hull(list: &mut [i16]) -> Result<usize, Refusal> {
+    let answer = unsafe { raw::volkhidar_reduce_to_hull(list.as_mut_ptr(), list.len()) };
+    checked(answer.refusal)?;
+    Ok(answer.count as usize)
+}
+
 /// The radius to cut with: the least whole number R with R²e² greater than s. The circle of radius R about the disk's centre keeps off
 /// every point that the disk holds: each lies inside it and none on it.
 ///

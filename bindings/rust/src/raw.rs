@@ -89,6 +89,7 @@ extern "C" {
     pub fn volkhidar_smallest_disk(list: *mut i16, list_length: usize) -> DiskAnswer;
     pub fn volkhidar_smallest_disk_through(list: *const i16, list_length: usize, first: Point, second: Point) -> ThroughAnswer;
     pub fn volkhidar_smallest_disk_of_traced(list: *const i16, list_length: usize) -> ThroughAnswer;
+    pub fn volkhidar_reduce_to_hull(list: *mut i16, list_length: usize) -> LoadAnswer;
     pub fn volkhidar_whole_radius(disk: Disk, support: Support) -> RadiusAnswer;
     pub fn volkhidar_preview(disk: Disk, support: Support) -> PreviewAnswer;
     pub fn volkhidar_write_record(disk: Disk, support: Support, buffer: *mut u8, buffer_length: usize) -> u64;
@@ -159,6 +160,11 @@ mod tests {
             let answer = unsafe { volkhidar_smallest_disk_of_traced(list.as_ptr(), list.len()) };
             let Disk { x, y, e, s } = answer.disk;
             assert_eq!((answer.refusal, x, y, e, s), (refusal, 0, 0, 0, 0));
+        }
+        for (length, refusal) in [(3, 9), (0, 5), (8_194, 4), (2, 3)] {
+            let mut list = vec![-1; length];
+            let answer = unsafe { volkhidar_reduce_to_hull(list.as_mut_ptr(), list.len()) };
+            assert_eq!((answer.refusal, answer.count), (refusal, 0));
         }
     }
 }

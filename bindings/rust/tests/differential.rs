@@ -1,6 +1,8 @@
 //! The wrappers against the independent implementation in `tests/reference`, on drawn input. Every case has a fixed seed; a failure
 //! names it.
 
+mod hull;
+
 use reference::chosen;
 use reference::damage;
 use reference::drawing;
@@ -508,7 +510,11 @@ fn fuzzed_bytes() {
         let list: Vec<i16> = any.chunks(2).map(|pair| i16::from(pair[0]) - 20).collect();
         compare_list(&list, &name);
         compare_traced(&list, &name);
-        compare_traced(&few.iter().map(|&byte| byte.into()).collect::<Vec<i16>>(), &name);
+        let small: Vec<i16> = few.iter().map(|&byte| byte.into()).collect();
+        compare_traced(&small, &name);
+        for list in [&list, &small] {
+            let _ = hull::compare_hull(list, &name);
+        }
         if seed % 4 == 0 {
             compare_description(&any, 8_192, &name);
             compare_description(&drawn_bytes(&mut random, 40, b"0123 \n\n -9+x\t\r\0"), 8_192, &name);
