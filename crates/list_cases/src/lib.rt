@@ -9,7 +9,7 @@ ghost use lib.ListN.{length};
 ghost use Rattle.relative_disks.specs.Relative.{Small};
 
 // The engine on a list of points alone.
-fn solve(list: &mut [i16]) {
+pub fn solve(list: &mut [i16]) {
     match engine::smallest_disk(list) {
         engine::Enclosed::Found(d, t, tests) => {
             report::print_enclosure(d, t, tests);

@@ -8,6 +8,7 @@ ghost use Rattle.engine.specs.Engine as engine;
 ghost use Rattle.chosen_points.specs.declared.Chosen.the-variants.{Two};
 ghost use Rattle.chosen_points.specs.Chosen.{throughOf};
 ghost use Rattle.traced_points.specs.Traced.{tracedOf};
+ghost use Rattle.hull_points.specs.Reducing as hull;
 ghost use Rattle.radius.specs.Radius.{radiusOf};
 ghost use Rattle.record_writer.specs.Writing as writer;
 ghost use Rattle.record_reader.specs.Reading.{readOf};
@@ -84,6 +85,14 @@ pub extern "C" fn volkhidar_smallest_disk_of_traced(list: &[i16]) -> ThroughAnsw
     ensures { λ _. ⌜ now (list .exit) ≡ now (list .entry) ⌝ }
 {
     c_traced::smallest_disk_of_traced(list)
+}
+
+#[no_mangle]
+pub extern "C" fn volkhidar_reduce_to_hull(list: &mut [i16]) -> LoadAnswer
+    ensures { λ r. ⌜ r ≡ loadAnswer (hull.reduceOf (now (list .entry))) ⌝ }
+    ensures { λ _. ⌜ now (list .exit) ≡ hull.listAfter (now (list .entry)) ⌝ }
+{
+    c_hull::reduce_to_hull(list)
 }
 
 #[no_mangle]
