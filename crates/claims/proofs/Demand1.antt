@@ -4,6 +4,7 @@ use Rattle.answers.specs.Outcome.{Outcome}
 use Rattle.description.proofs.Loading.{after-refused}
 use Rattle.engine.proofs.Checks.{list-refused}
 use Rattle.drawn_points.proofs.Behind.{append-refused}
+use Rattle.hull_points.proofs.Answers.{list-kept}
 use Rattle.record_writer.specs.Writing.{leftBy}
 use Rattle.rules.proofs.Calls as calls
 use Rattle.claims.specs.Demand1.{Demand1}
@@ -20,8 +21,10 @@ demand-one = record {
   append = calls.append;
   through = calls.through;
   traced = calls.traced;
+  hull = calls.hull;
   loader-keeps = λ t l n e. after-refused t l n e;
   engine-keeps = λ l n e. list-refused l e;
   writer-keeps = λ d ps b n e. ap (λ (o : Outcome (Unit {0})). leftBy o d ps b) e;
   append-keeps = λ p l n k e. append-refused p l n e;
+  hull-keeps = λ l n e. list-kept l e;
 }

@@ -6,8 +6,8 @@
 --
 -- `GoesBy row o`: o is refused with n exactly where n is due first by the row, and a value is given exactly where every rule is kept (rules/specs/Row.antt).
 -- The rows, with the papers' numbers in their order: rules/specs/Rules.antt. The loader is lent a list, the engine its point list, the writer a
--- buffer, and the call of document 02, item 2 a list that it puts a point into; descriptions, sheets, records and the lists of the calls of items 6 and 7
--- are lent to be read alone.
+-- buffer, the call of document 02, item 2 a list that it puts a point into, and that of item 8 the list that it reduces; descriptions, sheets, records and
+-- the lists of the calls of items 6 and 7 are lent to be read alone.
 use mathlib.Core.Path.{_≡_}
 use mathlib.Core.List.{List}
 use Prim.Native.Nat.{ℕ}
@@ -25,6 +25,8 @@ use Rattle.engine.specs.Engine.{encloseOf, listAfter}
 use Rattle.chosen_points.specs.declared.Chosen.{Chosen}
 use Rattle.chosen_points.specs.Chosen.{throughOf}
 use Rattle.traced_points.specs.Traced.{tracedOf}
+use Rattle.hull_points.specs.Reducing as reducing
+use Rattle.hull_points.specs.Reducing.{reduceOf}
 use Rattle.preview.specs.Preview.{previewOf}
 use Rattle.radius.specs.Radius.{radiusOf}
 use Rattle.record_writer.specs.Writing.{writeOf, bufferAfter}
@@ -44,8 +46,10 @@ pub record Demand1 : Type 0 where
   pub append : (p : DrawnPoint) (l : List ℤ) (n : ℕ) → GoesBy (appendRow p l n) (appendOf p l n)
   pub through : (l : List ℤ) (c : Chosen) → GoesBy (throughRow l c) (throughOf l c)
   pub traced : (l : List ℤ) → GoesBy (tracedRow l) (tracedOf l)
+  pub hull : (l : List ℤ) → GoesBy (engineRow l) (reduceOf l)
   -- "and changes nothing it was lent"
   pub loader-keeps : (t : List ℕ) (l : List ℤ) (n : ℕ) → loadOf t l ≡ refused n → description.listAfter t l ≡ l
   pub engine-keeps : (l : List ℤ) (n : ℕ) → encloseOf l ≡ refused n → listAfter l ≡ l
   pub writer-keeps : (d : Disk) (ps : List Point) (b : List ℕ) (n : ℕ) → writeOf d ps b ≡ refused n → bufferAfter d ps b ≡ b
   pub append-keeps : (p : DrawnPoint) (l : List ℤ) (n k : ℕ) → appendOf p l n ≡ refused k → drawn.listAfter p l n ≡ l
+  pub hull-keeps : (l : List ℤ) (n : ℕ) → reduceOf l ≡ refused n → reducing.listAfter l ≡ l

@@ -16,7 +16,7 @@ use Rattle.geometry.specs.declared.Point.{Point}
 use Rattle.point_lists.specs.Sets.{In}
 use Rattle.point_lists.proofs.Sets.{point-path}
 use Rattle.disks.proofs.Base.{positive-not-zero}
-use Rattle.hull.proofs.Spanned.{Spanned}
+use Rattle.hull.specs.Means.{Mean}
 
 abbrev square : ℤ → ℤ → ℤ
 square s t = s *ℤ s +ℤ t *ℤ t
@@ -110,14 +110,14 @@ arm-same : (p a E X : ℤ) → pos 0 ≺ E → p *ℤ E -ℤ X ≡ a *ℤ E -ℤ
 arm-same p a E X h e = ≡-cancel (positive-not-zero h) (linear (p ∷ a ∷ E ∷ X ∷ []) (eqn (pos 1) e) (search poly depth 30) tt)
 
 module _ {H : List Point} {p : Point} (X Y E f r : ℤ) (held : (q : Point) → In q H → f *ℤ apart X Y E q ≼ r) where
-  pub inside : Spanned H p → pos 0 ≼ f → f *ℤ apart X Y E p ≼ r
+  pub inside : Mean H p → pos 0 ≼ f → f *ℤ apart X Y E p ≼ r
   inside s hf = mean-held (s .α) (s .β) (s .γ) (s .a .x *ℤ E -ℤ X) (s .a .y *ℤ E -ℤ Y) (s .b .x *ℤ E -ℤ X) (s .b .y *ℤ E -ℤ Y)
       (s .c .x *ℤ E -ℤ X) (s .c .y *ℤ E -ℤ Y) (p .x *ℤ E -ℤ X) (p .y *ℤ E -ℤ Y) f r (s .α-some) (s .β-some) (s .γ-some) hf (s .weight)
       (arm-mean (s .α) (s .β) (s .γ) (s .a .x) (s .b .x) (s .c .x) (p .x) E X (s .x-is))
       (arm-mean (s .α) (s .β) (s .γ) (s .a .y) (s .b .y) (s .c .y) (p .y) E Y (s .y-is))
       (held (s .a) (s .a-in)) (held (s .b) (s .b-in)) (held (s .c) (s .c-in))
 
-  first-corner : (s : Spanned H p) → pos 0 ≺ s .α → pos 0 ≺ f → pos 0 ≺ E → f *ℤ apart X Y E p ≡ r → In p H
+  first-corner : (s : Mean H p) → pos 0 ≺ s .α → pos 0 ≺ f → pos 0 ≺ E → f *ℤ apart X Y E p ≡ r → In p H
   first-corner s hα hf hE on = Memᴰ·cast (point-path (arm-same (p .x) (s .a .x) E X hE (at .0)) (arm-same (p .y) (s .a .y) E Y hE (at .1))) (s .a-in)
     where
       at : (p .x *ℤ E -ℤ X ≡ s .a .x *ℤ E -ℤ X) × (p .y *ℤ E -ℤ Y ≡ s .a .y *ℤ E -ℤ Y)
@@ -129,7 +129,7 @@ module _ {H : List Point} {p : Point} (X Y E f r : ℤ) (held : (q : Point) → 
 
 -- ---- the three in another order
 
-turned : {H : List Point} {p : Point} → Spanned H p → Spanned H p
+turned : {H : List Point} {p : Point} → Mean H p → Mean H p
 turned {H} {p} s = record {
   a = s .b;
   b = s .c;
@@ -154,19 +154,19 @@ turned {H} {p} s = record {
     mean : (α β γ a b c p : ℤ) → (α +ℤ β +ℤ γ) *ℤ p ≡ α *ℤ a +ℤ β *ℤ b +ℤ γ *ℤ c → (β +ℤ γ +ℤ α) *ℤ p ≡ β *ℤ b +ℤ γ *ℤ c +ℤ α *ℤ a
     mean α β γ a b c p e = linear (α ∷ β ∷ γ ∷ a ∷ b ∷ c ∷ p ∷ []) (eqn (pos 1) e) (search poly depth 30) tt
 
-pub heavy : {H : List Point} {p : Point} → Spanned H p → (s : Spanned H p) × (pos 0 ≺ s .α)
+pub heavy : {H : List Point} {p : Point} → Mean H p → (s : Mean H p) × (pos 0 ≺ s .α)
 unfolding turned
 heavy {H} {p} s = go (≤-or-< (s .α) (pos 0)) (≤-or-< (s .β) (pos 0)) (≤-or-< (s .γ) (pos 0))
   where
     none : {X : Type 0} (α β γ : ℤ) → pos 0 ≺ α +ℤ β +ℤ γ → α ≼ pos 0 → β ≼ pos 0 → γ ≼ pos 0 → X
     none α β γ w h k l = clash (α ∷ β ∷ γ ∷ []) (lt w ⊞ le h ⊞ le k ⊞ le l) (search poly depth 30) tt
 
-    go : (s .α ≼ pos 0) ⊎ (pos 0 ≺ s .α) → (s .β ≼ pos 0) ⊎ (pos 0 ≺ s .β) → (s .γ ≼ pos 0) ⊎ (pos 0 ≺ s .γ) → (t : Spanned H p) × (pos 0 ≺ t .α)
+    go : (s .α ≼ pos 0) ⊎ (pos 0 ≺ s .α) → (s .β ≼ pos 0) ⊎ (pos 0 ≺ s .β) → (s .γ ≼ pos 0) ⊎ (pos 0 ≺ s .γ) → (t : Mean H p) × (pos 0 ≺ t .α)
     go (inr h) k l = (s, h)
     go (inl h) (inr k) l = (turned s, k)
     go (inl h) (inl k) (inr l) = (turned (turned s), l)
     go (inl h) (inl k) (inl l) = none (s .α) (s .β) (s .γ) (s .weight) h k l
 
-pub a-corner : {H : List Point} {p : Point} (X Y E f r : ℤ) → ((q : Point) → In q H → f *ℤ apart X Y E q ≼ r) → Spanned H p → pos 0 ≺ f → pos 0 ≺ E
+pub a-corner : {H : List Point} {p : Point} (X Y E f r : ℤ) → ((q : Point) → In q H → f *ℤ apart X Y E q ≼ r) → Mean H p → pos 0 ≺ f → pos 0 ≺ E
     → f *ℤ apart X Y E p ≡ r → In p H
 a-corner X Y E f r held s hf hE on = let t = heavy s in first-corner X Y E f r held (t .0) (t .1) hf hE on

@@ -1,5 +1,5 @@
 pub mod Turns
-pub mod Spanned
+pub mod Means
 pub mod Convex
 pub mod SameDisk
 pub mod Unique

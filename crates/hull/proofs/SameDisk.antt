@@ -44,15 +44,16 @@ use Rattle.disks.proofs.SupportPoints.{Supporting, Supported, one, two, three, 
 use Rattle.disks.proofs.Welzl.{smallest}
 use Rattle.disks.proofs.First.{first-support, first-unique}
 use Rattle.hull.specs.Hull.{IsHull}
-use Rattle.hull.proofs.Spanned.{Spanned, spanned}
+use Rattle.hull.specs.Means.{Mean}
+use Rattle.hull.proofs.Means.{mean}
 use Rattle.hull.proofs.Convex.{inside, a-corner}
 
 pub record Spans (P H : List Point) : Type 0 where
   pub members : (p : Point) → In p H → In p P
-  pub all : (p : Point) → In p P → Spanned H p
+  pub all : (p : Point) → In p P → Mean H p
 
 pub hull-spans : {P H : List Point} → IsHull P H → Spans P H
-hull-spans {P} {H} h = record { members = h .members; all = spanned H h }
+hull-spans {P} {H} h = record { members = h .members; all = mean H h }
 
 -- ---- disks
 
@@ -82,11 +83,11 @@ module _ {H : List Point} (d : Disk) (held : (q : Point) → In q H → T (holds
   unfolding holds
   held-once q i = once (distance d q) (pos (d .s)) (record { le = held q i })
 
-  pub held-inside : (p : Point) → Spanned H p → T (holds d p)
+  pub held-inside : (p : Point) → Mean H p → T (holds d p)
   unfolding holds
   held-inside p s = at-once (distance d p) (pos (d .s)) (inside (d .x) (d .y) (pos (d .e)) (pos 1) (pos (d .s)) held-once s (nn 1)) .le
 
-  pub boundary-corner : (p : Point) → Spanned H p → 1 ≤ d .e → onBoundary d p → In p H
+  pub boundary-corner : (p : Point) → Mean H p → 1 ≤ d .e → onBoundary d p → In p H
   boundary-corner p s some on = a-corner (d .x) (d .y) (pos (d .e)) (pos 1) (pos (d .s)) held-once s one-positive (some-positive some)
       (once-equal (distance d p) (pos (d .s)) on)
 

@@ -1,6 +1,6 @@
 -- Each public call goes by its row of rules (specs/Rules.antt).
 --
---   loader, sheet, engine, radius, preview, writer, reader, append, through, traced : the calls
+--   loader, sheet, engine, radius, preview, writer, reader, append, through, traced, hull : the calls
 use mathlib.Core.Path.{_≡_, refl, sym, ap, ap₂, _∙_, subst}
 use mathlib.Core.Bool.{Bool, true, false, not, true≢false}
 use mathlib.Core.List.{List, [], _∷_}
@@ -35,6 +35,9 @@ use Rattle.tracings.specs.Squares as squares
 use Rattle.tracings.specs.Squares.{corners}
 use Rattle.square_corners.proofs.Threes.{length-traced}
 use Rattle.traced_points.specs.Traced.{tolerated, fault, firstFault, tracedOf}
+use Rattle.hull.specs.Chains.{hullOf}
+use Rattle.hull_points.specs.Reducing.{reduceOf}
+use Rattle.hull_points.proofs.Answers.{refused-answer, given-answer}
 use Rattle.validity.specs.Valid.{valid}
 use Rattle.radius.specs.Radius.{wholeRadius, radiusOf}
 use Rattle.record_writer.specs.Layout.{recordLength}
@@ -81,7 +84,7 @@ sheet s k =
     row-end (pair s k)))))
 
 -- as many numbers as twice the points
-paired : (l : List ℤ) → length l % 2 ≡ 0 → length l ≡ 2 * length (points l)
+pub paired : (l : List ℤ) → length l % 2 ≡ 0 → length l ≡ 2 * length (points l)
 paired l even =
     let half = length l / 2 in
     let twice : length l ≡ 2 * half = omega arith in
@@ -112,6 +115,11 @@ engine l =
 
     few : {n m : ℕ} → n ≡ 2 * m → n / 2 ≤ 4096 → m ≤ 4096
     few e h = omega arith
+
+-- the engine's checks alone
+pub hull : (l : List ℤ) → GoesBy (engineRow l) (reduceOf l)
+hull l =
+    row-through (encloseOf l) (reduceOf l) (engine l) (λ e h. (length (hullOf (points l)), given-answer l h)) (λ k h. refused-answer l h)
 
 -- the engine's checks, the chosen points in the list, and a disk that fits
 pub through : (l : List ℤ) (c : Chosen) → GoesBy (throughRow l c) (throughOf l c)

@@ -11,7 +11,8 @@
 --   IsRecord bs        == bs is the record of such a disk and points
 --   Names p c          == the drawing program's point p is c: its whole numbers are c's, or its floats stand for them exactly
 --   pointRow s         == the rules of a traced point: 14, then 3
---   loaderRow, sheetRow, engineRow, writerRow, readerRow, diskRow, appendRow, throughRow, tracedRow == the rows; radius and preview have diskRow
+--   loaderRow, sheetRow, engineRow, writerRow, readerRow, diskRow, appendRow, throughRow, tracedRow == the rows; radius and preview have diskRow, the
+--                         call that reduces a list to its hull has engineRow
 --
 -- `Inside em p`: x is from 0 to 1000 and y from −250 to 750 (geometry/specs/EmBox.antt, which has every limit of points and disks).
 use mathlib.Core.Path.{_≡_}
@@ -107,7 +108,7 @@ sheetRow s k =
 
 -- ---- point lists
 
--- "Engine: 9, 5, 4, 3."
+-- "Engine: 9, 5, 4, 3."; of the call of 02, item 8: "Refusals are the engine's."
 abbrev pub engineRow : List ℤ → List Rule
 engineRow list =
     9 unless (length list % 2 ≡ 0)

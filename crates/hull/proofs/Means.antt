@@ -1,8 +1,7 @@
 -- Every point of a list is a weighted mean of three corners of its hull.
 --
---   Spanned H p    == whole weights, not negative and not all zero, of three points of H whose weighted mean is p
---   fan            : of a point in the fan triangle O g h
---   spanned        : every point of P is spanned by the hull of P
+--   fan            : a point in the fan triangle O g h is a mean of the three
+--   mean           : every point of P is a mean of corners of the hull of P
 use mathlib.Core.Path.{_≡_, refl, sym, subst}
 use mathlib.Core.Logic.{_⊎_, inl, inr}
 use mathlib.Core.List.{List, [], _∷_, _++_, List·Memᴰ·head, List·Memᴰ·tail}
@@ -15,24 +14,8 @@ use Rattle.geometry.specs.declared.Point.{Point}
 use Rattle.geometry.specs.Order.{before}
 use Rattle.point_lists.specs.Sets.{In}
 use Rattle.hull.specs.Hull.{cross, OnLeft, UpTo, round, Polygon, Row, IsHull}
+use Rattle.hull.specs.Means.{Mean}
 use Rattle.hull.proofs.Turns.{Forward, right, up, forward}
-
-pub record Spanned (H : List Point) (p : Point) : Type 0 where
-  pub a : Point
-  pub b : Point
-  pub c : Point
-  pub a-in : In a H
-  pub b-in : In b H
-  pub c-in : In c H
-  pub α : ℤ
-  pub β : ℤ
-  pub γ : ℤ
-  pub α-some : pos 0 ≼ α
-  pub β-some : pos 0 ≼ β
-  pub γ-some : pos 0 ≼ γ
-  pub weight : pos 0 ≺ α +ℤ β +ℤ γ
-  pub x-is : (α +ℤ β +ℤ γ) *ℤ p .x ≡ α *ℤ a .x +ℤ β *ℤ b .x +ℤ γ *ℤ c .x
-  pub y-is : (α +ℤ β +ℤ γ) *ℤ p .y ≡ α *ℤ a .y +ℤ β *ℤ b .y +ℤ γ *ℤ c .y
 
 -- ---- a triangle of the fan
 
@@ -43,7 +26,7 @@ fan-weight : (O g h p : Point) → cross g h p +ℤ negℤ (cross O h p) +ℤ cr
 fan-weight O g h p = ring (O .x ∷ O .y ∷ g .x ∷ g .y ∷ h .x ∷ h .y ∷ p .x ∷ p .y ∷ []) (search poly depth 30) tt
 
 pub fan : {H : List Point} (O g h p : Point) → In O H → In g H → In h H → pos 0 ≼ cross g h p → cross O h p ≼ pos 0 → pos 0 ≼ cross O g p
-    → pos 0 ≺ cross O g h → Spanned H p
+    → pos 0 ≺ cross O g h → Mean H p
 fan O g h p iO ig ih sg sO sh w = record {
   a = O;
   b = g;
@@ -74,16 +57,16 @@ both-sides : {X : Type 0} (s t : ℤ) → t ≡ negℤ s → pos 0 ≺ s → pos
 both-sides s t e hs ht = clash (s ∷ t ∷ []) (lt hs ⊞ ht ⊞ eq (negsuc 0) e) (search poly depth 30) tt
 
 module _ {H : List Point} (O b p : Point) (iO : In O H) where
-  further : (g : Point) (l : List Point) → In g H → ((q : Point) → In q l → In q H) → pos 0 ≺ cross O g p → OnLeft (g ∷ (l ++ (O ∷ b ∷ []))) p → Spanned H p
+  further : (g : Point) (l : List Point) → In g H → ((q : Point) → In q l → In q H) → pos 0 ≺ cross O g p → OnLeft (g ∷ (l ++ (O ∷ b ∷ []))) p → Mean H p
   further g [] ig il s left = both-sides (cross O g p) (cross g O p) (opposite-turn O g p) s (left .0)
   further g (h ∷ l) ig il s left = go (further h l (il h (List·Memᴰ·head refl)) (λ q i. il q (List·Memᴰ·tail i))) (≤-or-< (cross O h p) (pos 0))
     where
-      go : (pos 0 ≺ cross O h p → OnLeft (h ∷ (l ++ (O ∷ b ∷ []))) p → Spanned H p) → (cross O h p ≼ pos 0) ⊎ (pos 0 ≺ cross O h p) → Spanned H p
+      go : (pos 0 ≺ cross O h p → OnLeft (h ∷ (l ++ (O ∷ b ∷ []))) p → Mean H p) → (cross O h p ≼ pos 0) ⊎ (pos 0 ≺ cross O h p) → Mean H p
       go f (inl k) = fan O g h p iO ig (il h (List·Memᴰ·head refl)) (left .0) k (≤-of-< s)
           (sum-positive (cross g h p) (cross O h p) (cross O g p) (cross O g h) (fan-weight O g h p) (left .0) k s)
       go f (inr k) = f k (left .1)
 
-in-polygon : {P : List Point} (a b c : Point) (l : List Point) → Polygon P a b (c ∷ l) → (p : Point) → In p P → Spanned (a ∷ b ∷ c ∷ l) p
+in-polygon : {P : List Point} (a b c : Point) (l : List Point) → Polygon P a b (c ∷ l) → (p : Point) → In p P → Mean (a ∷ b ∷ c ∷ l) p
 in-polygon {P} a b c l h p i = go (≤-or-< (cross a c p) (pos 0))
   where
     left : OnLeft (round a b (c ∷ l)) p
@@ -95,14 +78,14 @@ in-polygon {P} a b c l h p i = go (≤-or-< (cross a c p) (pos 0))
     in-c : In c H
     in-c = List·Memᴰ·tail (List·Memᴰ·tail (List·Memᴰ·head refl))
 
-    go : (cross a c p ≼ pos 0) ⊎ (pos 0 ≺ cross a c p) → Spanned H p
+    go : (cross a c p ≼ pos 0) ⊎ (pos 0 ≺ cross a c p) → Mean H p
     go (inl k) = fan a b c p (List·Memᴰ·head refl) (List·Memᴰ·tail (List·Memᴰ·head refl)) in-c (left .1 .0) k (left .0) (h .turns .0)
     go (inr k) = further a b p (List·Memᴰ·head refl) c l in-c (λ q j. List·Memᴰ·tail (List·Memᴰ·tail (List·Memᴰ·tail j))) k (left .1 .1)
 
 -- ---- in a row
 
 between : {H : List Point} (a b p : Point) (α β : ℤ) → In a H → In b H → pos 0 ≼ α → pos 0 ≼ β → pos 0 ≺ α +ℤ β
-    → (α +ℤ β) *ℤ p .x ≡ α *ℤ a .x +ℤ β *ℤ b .x → (α +ℤ β) *ℤ p .y ≡ α *ℤ a .y +ℤ β *ℤ b .y → Spanned H p
+    → (α +ℤ β) *ℤ p .x ≡ α *ℤ a .x +ℤ β *ℤ b .x → (α +ℤ β) *ℤ p .y ≡ α *ℤ a .y +ℤ β *ℤ b .y → Mean H p
 between a b p α β ia ib hα hβ w ex ey = record {
   a = a;
   b = b;
@@ -121,7 +104,7 @@ between a b p α β ia ib hα hβ w ex ey = record {
   y-is = linear (α ∷ β ∷ a .y ∷ b .y ∷ p .y ∷ []) (eqn (pos 1) ey) (search poly depth 30) tt;
 }
 
-pub itself : {H : List Point} (p : Point) → In p H → Spanned H p
+pub itself : {H : List Point} (p : Point) → In p H → Mean H p
 itself p i = between p p p (pos 1) (pos 0) i i (nn 1) (nn 0) (positive [] (nn 0) (search poly depth 30) tt)
     (ring (p .x ∷ []) (search poly depth 30) tt) (ring (p .y ∷ []) (search poly depth 30) tt)
 
@@ -130,10 +113,10 @@ not-left (right h) = ≤-of-< h
 not-left (up e h) = ≤-of-eq (sym e)
 
 -- p strictly between a and b, in a row with them
-in-between : {H : List Point} (a b p : Point) → In a H → In b H → T (before a b) → T (before a p) → T (before p b) → cross a b p ≡ pos 0 → Spanned H p
+in-between : {H : List Point} (a b p : Point) → In a H → In b H → T (before a b) → T (before a p) → T (before p b) → cross a b p ≡ pos 0 → Mean H p
 in-between {H} a b p ia ib ab ap pb e = go (forward a b ab) (forward a p ap) (forward p b pb)
   where
-    go : Forward (b .x -ℤ a .x) (b .y -ℤ a .y) → Forward (p .x -ℤ a .x) (p .y -ℤ a .y) → Forward (b .x -ℤ p .x) (b .y -ℤ p .y) → Spanned H p
+    go : Forward (b .x -ℤ a .x) (b .y -ℤ a .y) → Forward (p .x -ℤ a .x) (p .y -ℤ a .y) → Forward (b .x -ℤ p .x) (b .y -ℤ p .y) → Mean H p
     go (right h) f g = between a b p (b .x -ℤ p .x) (p .x -ℤ a .x) ia ib (not-left g) (not-left f)
         (positive (a .x ∷ b .x ∷ p .x ∷ []) (lt h) (search poly depth 30) tt)
         (ring (a .x ∷ b .x ∷ p .x ∷ []) (search poly depth 30) tt)
@@ -145,16 +128,16 @@ in-between {H} a b p ia ib ab ap pb e = go (forward a b ab) (forward a p ap) (fo
         (linear (a .x ∷ b .x ∷ p .x ∷ a .y ∷ b .y ∷ p .y ∷ []) (eqn (negsuc 0) e) (search poly depth 30) tt)
         (ring (a .y ∷ b .y ∷ p .y ∷ []) (search poly depth 30) tt)
 
-in-row : {P : List Point} (a b : Point) → Row P a b → (p : Point) → In p P → Spanned (a ∷ b ∷ []) p
+in-row : {P : List Point} (a b : Point) → Row P a b → (p : Point) → In p P → Mean (a ∷ b ∷ []) p
 in-row a b r p i = go (r .from p i) (r .to p i)
   where
-    go : UpTo a p → UpTo p b → Spanned (a ∷ b ∷ []) p
+    go : UpTo a p → UpTo p b → Mean (a ∷ b ∷ []) p
     go (inl e) t = itself p (List·Memᴰ·head (sym e))
     go (inr s) (inl e) = itself p (List·Memᴰ·tail (List·Memᴰ·head e))
     go (inr s) (inr t) = in-between a b p (List·Memᴰ·head refl) (List·Memᴰ·tail (List·Memᴰ·head refl)) (r .ends) s t (r .in-row p i)
 
-pub spanned : {P : List Point} (H : List Point) → IsHull P H → (p : Point) → In p P → Spanned H p
-spanned [] h p i = absurd (h .corners p i)
-spanned (a ∷ []) h p i = itself p (List·Memᴰ·head (h .corners p i))
-spanned (a ∷ b ∷ []) h p i = in-row a b (h .corners) p i
-spanned (a ∷ b ∷ c ∷ l) h p i = in-polygon a b c l (h .corners) p i
+pub mean : {P : List Point} (H : List Point) → IsHull P H → (p : Point) → In p P → Mean H p
+mean [] h p i = absurd (h .corners p i)
+mean (a ∷ []) h p i = itself p (List·Memᴰ·head (h .corners p i))
+mean (a ∷ b ∷ []) h p i = in-row a b (h .corners) p i
+mean (a ∷ b ∷ c ∷ l) h p i = in-polygon a b c l (h .corners) p i
