@@ -15,9 +15,9 @@ ghost use Rattle.hull_chains.specs.Spans.{span};
 fn turns_left(a: Point, b: Point, c: Point) -> bool
     ensures { λ r. ⌜ r ≡ ltZ (pos 0) (cross a b c) ⌝ }
 {
-    0
-        < geometry::minus(b.x, a.x) * geometry::minus(c.y, a.y)
-            - geometry::minus(b.y, a.y) * geometry::minus(c.x, a.x)
+    let ahead = geometry::minus(b.x, a.x) * geometry::minus(c.y, a.y);
+    let back = geometry::minus(b.y, a.y) * geometry::minus(c.x, a.x);
+    0 < ahead - back
 }
 
 // Where a chain with p in front goes on: the points m to n of the list are a chain, and those of them that make no strict left turn
