@@ -17,12 +17,6 @@
 #include "lists.hpp"
 
 namespace bench {
-
-std::vector<Entry>& entries() {
-    static std::vector<Entry> all;
-    return all;
-}
-
 namespace {
 
 struct Settings {

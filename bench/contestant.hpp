@@ -25,10 +25,12 @@ struct Drawn {
     bool is_square;
 };
 
-// An exact contestant fills `disk`, any other `drawn`.
+// An exact contestant fills `disk`, any other `drawn`; a contestant of the hull fills `hull`, the corners counterclockwise from the
+// least (x, then y).
 struct Found {
-    Disk disk;
-    Drawn drawn;
+    Disk disk = {};
+    Drawn drawn = {};
+    List hull = {};
 };
 
 class Contestant {
@@ -36,9 +38,9 @@ class Contestant {
     virtual ~Contestant() = default;
     // Takes copies of the lists, in the contestant's own form. Not timed.
     virtual void prepare(const std::vector<List>& lists) = 0;
-    // The disks of all of them. Timed.
+    // The disks, or hulls, of all of them. Timed.
     virtual void run() = 0;
-    // The disk of list i. Not timed.
+    // The disk, or hull, of list i. Not timed.
     virtual Found found(size_t i) const = 0;
 };
 
@@ -49,7 +51,10 @@ struct Entry {
     std::unique_ptr<Contestant> contestant;
 };
 
-std::vector<Entry>& entries();
+inline std::vector<Entry>& entries() {
+    static std::vector<Entry> all;
+    return all;
+}
 
 // A file of contestants/ puts what it has into the row by a static object of this kind.
 struct Enter {

@@ -109,11 +109,11 @@ def plot(rows):
     from matplotlib import pyplot
 
     kinds = ordered(rows, "kind")
-    figure, axes = pyplot.subplots(1, len(kinds), figsize=(4 * len(kinds), 4.6), sharey=True)
+    figure, axes = pyplot.subplots(1, len(kinds), figsize=(4 * len(kinds), 4.8), sharey=True)
     for axis, kind in zip(axes, kinds):
         for k, name in enumerate(ordered(rows, "contestant")):
             here = [r for r in rows if r["kind"] == kind and r["contestant"] == name]
-            style = dict(color=f"C{k}", linewidth=2.5 if name == OURS else 1.2, linestyle="-" if here[0]["exact"] == "1" else "--")
+            style = dict(color=f"C{k}", linewidth=2.5 if name.startswith(OURS) else 1.2, linestyle="-" if here[0]["exact"] == "1" else "--")
             axis.loglog([int(r["n"]) for r in here], [float(r["seconds"]) for r in here], marker="o", markersize=3, label=name, **style)
         axis.set_title(kind)
         axis.set_xlabel("points in the list")
@@ -121,7 +121,7 @@ def plot(rows):
     axes[0].set_ylabel("seconds a list")
     handles, names = axes[0].get_legend_handles_labels()
     figure.legend(handles, names, loc="lower center", ncol=4, frameon=False)
-    figure.tight_layout(rect=(0, 0.14, 1, 1))
+    figure.tight_layout(rect=(0, 0.18, 1, 1))
     figure.savefig(PLOT, dpi=110)
 
 

@@ -89,17 +89,18 @@ void compare(Kind kind, Size size, How how) {
     }
     std::vector<volkhidar_through_answer> answers(lists.size());
     std::vector<List> copies;
-    Times times = take_turns(
-        ROUNDS, lists.size(), [&] { copies = lists; },
-        [&] {
-            for (List& list : copies) volkhidar_smallest_disk(&list.data()->x, 2 * list.size());
-        },
-        [&] {
-            for (size_t i = 0; i < lists.size(); i++) {
-                Choice c = choices[i];
-                answers[i] = volkhidar_smallest_disk_through(&lists[i].data()->x, 2 * lists[i].size(), {c.a.x, c.a.y}, {c.b.x, c.b.y});
-            }
-        });
+    Turn engine{[&] { copies = lists; },
+                [&] {
+                    for (List& list : copies) volkhidar_smallest_disk(&list.data()->x, 2 * list.size());
+                }};
+    Turn through{[] {},
+                 [&] {
+                     for (size_t i = 0; i < lists.size(); i++) {
+                         Choice c = choices[i];
+                         answers[i] = volkhidar_smallest_disk_through(&lists[i].data()->x, 2 * lists[i].size(), {c.a.x, c.a.y}, {c.b.x, c.b.y});
+                     }
+                 }};
+    std::vector<double> times = take_turns(ROUNDS, lists.size(), {engine, through});
     size_t refused = 0;
     for (size_t i = 0; i < lists.size(); i++) {
         refused += answers[i].refusal == 13;
@@ -109,7 +110,7 @@ void compare(Kind kind, Size size, How how) {
         std::exit(1);
     }
     std::printf("| %s | %zu | %s | %zu of %zu | %.3g | %.3g | %.2f |\n", bench::name_of(kind).c_str(), size.n, name_of(how), refused, lists.size(),
-                times.first * 1e6, times.second * 1e6, times.second / times.first);
+                times[0] * 1e6, times[1] * 1e6, times[1] / times[0]);
     std::fflush(stdout);
 }
 

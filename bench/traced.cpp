@@ -65,21 +65,22 @@ void compare(Kind kind, Size size, Tolerances tolerances) {
     std::vector<volkhidar_disk_answer> plain(lists.size());
     std::vector<volkhidar_traced_answer> answers(lists.size());
     auto copies = squares;
-    Times times = take_turns(
-        ROUNDS, lists.size(), [&] { copies = squares; },
-        [&] {
-            for (size_t i = 0; i < copies.size(); i++) plain[i] = volkhidar_smallest_disk(copies[i].data(), copies[i].size());
-        },
-        [&] {
-            for (size_t i = 0; i < lists.size(); i++) answers[i] = volkhidar_smallest_disk_of_traced(lists[i].data(), lists[i].size());
-        });
+    Turn on_corners{[&] { copies = squares; },
+                    [&] {
+                        for (size_t i = 0; i < copies.size(); i++) plain[i] = volkhidar_smallest_disk(copies[i].data(), copies[i].size());
+                    }};
+    Turn on_traced{[] {},
+                   [&] {
+                       for (size_t i = 0; i < lists.size(); i++) answers[i] = volkhidar_smallest_disk_of_traced(lists[i].data(), lists[i].size());
+                   }};
+    std::vector<double> times = take_turns(ROUNDS, lists.size(), {on_corners, on_traced});
     for (size_t i = 0; i < lists.size(); i++) {
         if (answers[i].refusal == 0 && plain[i].refusal == 0 && is_same(answers[i].disk, plain[i].disk)) continue;
         std::fprintf(stderr, "another answer on %s, %zu traced points, t %s\n", name_of(kind).c_str(), size.n, tolerances.name);
         std::exit(1);
     }
-    std::printf("| %s | %zu | %s | %.3g | %.3g | %.2f |\n", name_of(kind).c_str(), size.n, tolerances.name, times.first * 1e6,
-                times.second * 1e6, times.second / times.first);
+    std::printf("| %s | %zu | %s | %.3g | %.3g | %.2f |\n", name_of(kind).c_str(), size.n, tolerances.name, times[0] * 1e6,
+                times[1] * 1e6, times[1] / times[0]);
     std::fflush(stdout);
 }
 

@@ -79,6 +79,6 @@ class CgalMinCircle : public Contestant {
     std::vector<Circle> circles;
 };
 
-Enter as_given(2, "CGAL Min_circle_2, exact, as given", true, std::make_unique<CgalMinCircle>(false));
-Enter shuffled(3, "CGAL Min_circle_2, exact, shuffled", true, std::make_unique<CgalMinCircle>(true));
+Enter as_given(4, "CGAL Min_circle_2, exact, as given", true, std::make_unique<CgalMinCircle>(false));
+Enter shuffled(5, "CGAL Min_circle_2, exact, shuffled", true, std::make_unique<CgalMinCircle>(true));
 }  // namespace

@@ -35,5 +35,5 @@ class CgalMinSphere : public Contestant {
     std::vector<Drawn> drawn;
 };
 
-Enter enter(4, "CGAL Min_sphere_of_spheres_d, doubles", false, std::make_unique<CgalMinSphere>());
+Enter enter(6, "CGAL Min_sphere_of_spheres_d, doubles", false, std::make_unique<CgalMinSphere>());
 }  // namespace

@@ -82,5 +82,5 @@ class Doubles : public Contestant {
     std::mt19937 random;
 };
 
-Enter enter(5, "Welzl in doubles", false, std::make_unique<Doubles>());
+Enter enter(7, "Welzl in doubles", false, std::make_unique<Doubles>());
 }  // namespace

@@ -1,4 +1,4 @@
-// The engine through its C interface (include/volkhidar.h).
+// The engine through its C interface (include/volkhidar.h): on the list as given, and on the corners of its hull.
 #include "../../include/volkhidar.h"
 #include "../contestant.hpp"
 
@@ -21,10 +21,22 @@ class Engine : public Contestant {
         return {{d.x, d.y, int64_t(d.e), int64_t(d.s)}, {}};
     }
 
-  private:
+  protected:
     std::vector<List> lists;
     std::vector<volkhidar_disk_answer> answers;
 };
 
+// The disk and its support set are those of the whole list, the count and the order are not.
+class HullFirst : public Engine {
+    void run() override {
+        for (size_t i = 0; i < lists.size(); i++) {
+            int16_t* list = &lists[i].data()->x;
+            size_t kept = volkhidar_reduce_to_hull(list, 2 * lists[i].size()).count;
+            answers[i] = volkhidar_smallest_disk(list, 2 * kept);
+        }
+    }
+};
+
 Enter enter(0, "Volkhidar", true, std::make_unique<Engine>());
+Enter hull_first(2, "Volkhidar, hull first: the disk alone", true, std::make_unique<HullFirst>());
 }  // namespace

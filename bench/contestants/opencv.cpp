@@ -31,5 +31,5 @@ class OpenCv : public Contestant {
     std::vector<Drawn> drawn;
 };
 
-Enter enter(6, "OpenCV minEnclosingCircle, floats", false, std::make_unique<OpenCv>());
+Enter enter(8, "OpenCV minEnclosingCircle, floats", false, std::make_unique<OpenCv>());
 }  // namespace

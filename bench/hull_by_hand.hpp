@@ -1,0 +1,101 @@
+// The convex hull of a list by hand in C++, in two ways: what a careful programmer would write without proofs.
+//
+// Both do what the engine's call does: the checks, the corners of the hull to the front of the list, counterclockwise from the least
+// (x, then y) with no three in a row, zeros behind them, and how many are kept.
+#pragma once
+#include <algorithm>
+#include <cstdint>
+#include <vector>
+
+#include "by_hand.hpp"
+
+namespace by_hand {
+
+struct Reduced {
+    int refusal;
+    size_t count;
+};
+
+inline bool turns_left(Point a, Point b, Point c) {
+    return (b.x - a.x) * (c.y - a.y) - (b.y - a.y) * (c.x - a.x) > 0;
+}
+
+// A chain of strict left turns, from the point `first` of it on.
+struct Chain {
+    Point* points;
+    size_t size, first;
+
+    void add(Point p) {
+        while (size >= first + 2 && !turns_left(points[size - 2], points[size - 1], p)) size--;
+        points[size++] = p;
+    }
+};
+
+inline Reduced put_in_front(const Chain& chain, Point* list, size_t n) {
+    std::copy(chain.points, chain.points + chain.size, list);
+    std::fill(list + chain.size, list + n, Point{0, 0});
+    return {0, chain.size};
+}
+
+// The points sorted, then a chain along their lower side and back along the upper one (Andrew, 1979).
+inline Reduced hull_by_sorting(Point* list, size_t n, std::vector<Point>& scratch) {
+    int refusal = refusal_of(list, n);
+    if (refusal) return {refusal, 0};
+    std::sort(list, list + n, [](Point a, Point b) { return a.x != b.x ? a.x < b.x : a.y < b.y; });
+    size_t m = size_t(std::unique(list, list + n, [](Point a, Point b) { return a.x == b.x && a.y == b.y; }) - list);
+    scratch.resize(std::max(scratch.size(), 2 * m));
+    Chain chain{scratch.data(), 0, 0};
+    for (size_t i = 0; i < m; i++) chain.add(list[i]);
+    chain.first = chain.size - 1;
+    for (size_t i = m - 1; i-- > 0;) chain.add(list[i]);
+    // Back at the point that it began with.
+    if (m > 1) chain.size--;
+    return put_in_front(chain, list, n);
+}
+
+// The lowest and the highest point of each column x of the em box, and a bit for each column that has one.
+struct Columns {
+    static constexpr size_t WIDTH = 1001;
+    int16_t low[WIDTH], high[WIDTH];
+    uint64_t used[WIDTH / 64 + 1] = {};
+
+    Columns(const Point* list, size_t n) {
+        std::fill(low, low + WIDTH, INT16_MAX);
+        std::fill(high, high + WIDTH, INT16_MIN);
+        for (size_t i = 0; i < n; i++) {
+            size_t x = size_t(list[i].x);
+            low[x] = std::min(low[x], list[i].y);
+            high[x] = std::max(high[x], list[i].y);
+            used[x / 64] |= uint64_t(1) << (x % 64);
+        }
+    }
+
+    // The columns in use, in rising order; how many there are.
+    size_t gather(int16_t* columns) const {
+        size_t m = 0;
+        for (size_t k = 0; k < WIDTH / 64 + 1; k++)
+            for (uint64_t bits = used[k]; bits != 0; bits &= bits - 1) columns[m++] = int16_t(64 * k + size_t(__builtin_ctzll(bits)));
+        return m;
+    }
+};
+
+// No sort: a chain along the lowest points of the columns and back along the highest.
+inline Reduced hull_by_columns(Point* list, size_t n, std::vector<Point>& scratch) {
+    int refusal = refusal_of(list, n);
+    if (refusal) return {refusal, 0};
+    Columns columns(list, n);
+    int16_t at[Columns::WIDTH];
+    size_t m = columns.gather(at);
+    scratch.resize(std::max(scratch.size(), 2 * m + 1));
+    Chain chain{scratch.data(), 0, 0};
+    for (size_t i = 0; i < m; i++) chain.add({at[i], columns.low[at[i]]});
+    chain.first = chain.size - 1;
+    int16_t left = at[0], right = at[m - 1];
+    if (columns.high[right] != columns.low[right]) chain.add({right, columns.high[right]});
+    for (size_t i = m - 1; i-- > 0;) chain.add({at[i], columns.high[at[i]]});
+    // Back at the point that it began with, where that column has only one.
+    if (m > 1 && columns.high[left] == columns.low[left]) chain.size--;
+    return put_in_front(chain, list, n);
+}
+
+}  // namespace by_hand
