@@ -5,3 +5,4 @@ pub mod Records
 pub mod InnerLevel
 pub mod ChosenPoints
 pub mod TracedPoints
+pub mod HullPoints
