@@ -10,3 +10,4 @@ pub mod HullOf
 pub mod Different
 pub mod Columns
 pub mod TwoSides
+pub mod Extreme

@@ -1,9 +1,11 @@
 -- Document 02, item 8 holds (specs/HullPoints.antt).
 --
 --   same-answers  : whole radius, preview and record follow from disk and support set
+--   sticking-in   : a point that sticks out is a corner
 --   kept-numbers  : the kept numbers are those of the hull's corners
 --   hull-points   : HullPoints
 use mathlib.Core.Path.{_≡_, refl, sym, _∙_, ap, ap₂, subst}
+use mathlib.Core.Bool.{Bool, true, false, true≢false}
 use mathlib.Core.List.{List, [], _∷_, _++_, List·Memᴰ·head}
 use Prim.Native.Nat.{ℕ, _*_, _-_, _%_, _≤_}
 use native.Mathlib.Omega.{arith}
@@ -18,8 +20,9 @@ use Rattle.geometry.specs.EmBox.{allInEmBox}
 use Rattle.geometry.specs.Points.{points, flat}
 use Rattle.geometry.proofs.PointLists.{length-flat, points-of-flat}
 use Rattle.geometry.proofs.EmBox.{all-inside, inside-all}
-use Rattle.point_lists.specs.Sets.{In}
+use Rattle.point_lists.specs.Sets.{has, In}
 use Rattle.point_lists.proofs.Sets.{none-of, also}
+use Rattle.point_lists.proofs.SetTests.{has-in, in-has}
 use Rattle.disks.specs.Procedure.{diskOf, testsOf}
 use Rattle.disks.specs.Support.{firstSupport}
 use Rattle.engine.specs.Engine.{Enclosure, enclosure, encloseOf}
@@ -29,6 +32,7 @@ use Rattle.hull.specs.Chains.{hullOf}
 use Rattle.hull.proofs.HullOf.{hull-of, hullOf-only}
 use Rattle.hull.proofs.Different.{hull-length}
 use Rattle.hull.proofs.Means.{mean}
+use Rattle.hull.proofs.Extreme.{extreme}
 use Rattle.hull.proofs.SameDisk.{disk-of-hull, support-of-hull}
 use Rattle.joined_chains.specs.Laid.{laid}
 use Rattle.hull_points.specs.Reducing.{reduceOf, listAfter}
@@ -37,12 +41,21 @@ use Rattle.rules.specs.Row.{AllKept}
 use Rattle.rules.specs.Rules.{engineRow}
 use Rattle.rules.proofs.Calls as calls
 use Rattle.claims.specs.Demand3.{Answers, answersFor}
-use Rattle.requests.specs.HullPoints.{keptOf, SameAnswers, HullPoints}
+use Rattle.requests.specs.HullPoints.{keptOf, SticksOut, SameAnswers, HullPoints}
 
 -- ---- the answers
 
 same-answers : (e f : Enclosure) → e .disk ≡ f .disk → e .support ≡ f .support → (b : List ℕ) → answersFor e b ≡ answersFor f b
 same-answers e f d s b = ap₂ (λ (c : Disk) (S : List Point). answersFor (record { disk = c; support = S; tests = 0 }) b) d s
+
+-- ---- what sticks out
+
+sticking-in : {P H : List Point} → IsHull P H → (p : Point) → SticksOut P p → In p H
+sticking-in {P} {H} h p s = go (has H p) refl
+  where
+    go : (b : Bool) → has H p ≡ b → In p H
+    go true e = has-in H p e
+    go false e = absurd (s .1 H (h .members) (λ i. true≢false (sym (in-has H p i) ∙ e)) (mean H h p (s .0)))
 
 -- ---- the hull of a list that the engine accepts
 
@@ -72,8 +85,8 @@ module _ (l : List ℤ) (e : Enclosure) (h : encloseOf l ≡ given e) where
   rules : Accepted l e
   rules = accepted-list l e h
 
-  has : P ≡ [] → ⊥
-  has = has-point l (rules .even) (rules .some)
+  some : P ≡ [] → ⊥
+  some = has-point l (rules .even) (rules .some)
 
   as-many : length (points (flat H)) ≡ length H
   as-many = ap length (points-of-flat H)
@@ -91,7 +104,7 @@ module _ (l : List ℤ) (e : Enclosure) (h : encloseOf l ≡ given e) where
   kept-rules = (
     even (length H) (length-flat H),
     (
-      omega (arith, as-many, hull-some P has),
+      omega (arith, as-many, hull-some P some),
       (
         omega (arith, as-many, few),
         ((λ p i. engine-kept .1 .1 .1 .0 p (hull-of P .members p (subst (In p) (points-of-flat H) i))), tt),
@@ -112,9 +125,9 @@ module _ (l : List ℤ) (e : Enclosure) (h : encloseOf l ≡ given e) where
       let (f, g) = calls.engine (flat H) .taken .1 kept-rules in
       let is = accepted-list (flat H) f g .answer in
       let disk : f .disk ≡ e .disk =
-      ap (λ (a : Enclosure). a .disk) is ∙ ap diskOf (points-of-flat H) ∙ same-disk P has ∙ sym (ap (λ (a : Enclosure). a .disk) (rules .answer)) in
+      ap (λ (a : Enclosure). a .disk) is ∙ ap diskOf (points-of-flat H) ∙ same-disk P some ∙ sym (ap (λ (a : Enclosure). a .disk) (rules .answer)) in
       let support : f .support ≡ e .support =
-      ap (λ (a : Enclosure). a .support) is ∙ ap firstSupport (points-of-flat H) ∙ same-support P has ∙ sym (ap (λ (a : Enclosure). a .support) (rules .answer)) in
+      ap (λ (a : Enclosure). a .support) is ∙ ap firstSupport (points-of-flat H) ∙ same-support P some ∙ sym (ap (λ (a : Enclosure). a .support) (rules .answer)) in
       record {
         full = e;
         kept = f;
@@ -146,6 +159,7 @@ hull-points = record {
   reduced = reduced;
   row = λ P a b i j r. record { members = also (λ p. In p P) i (also (λ p. In p P) j (none-of (λ p. In p P))); corners = r };
   lone = λ P a i f. record { members = also (λ p. In p P) i (none-of (λ p. In p P)); corners = f };
+  corners = λ P H h p. ((λ i. (h .members p i, extreme H h p i)), sticking-in h p);
   inside = λ P H h. mean H h;
   same = same;
 }

@@ -3,12 +3,15 @@
 -- Shown in proofs/HullPoints.antt.
 --
 --   keptOf l n         == the first n points of the list l as the call leaves it: the kept points, as numbers
+--   SticksOut P p      == p is a point of P that is no mean of other points of P
 --   SameAnswers l k    == the answers for the list k are those for the list l, but for the test count, which is k's own
 --   HullPoints         == all that item 8 says
 --
+-- `Mean H p` (hull/specs/Means.antt): p is a weighted mean of points of H.
 -- `IsHull P H` (hull/specs/Hull.antt): H are the corners of the convex hull of P, each next turning strictly left, with every point of P on the left of each
 -- side or on it; in rising order the first comes before every other point of P. A row has its two ends, a lone point itself.
 use mathlib.Core.Path.{_≡_}
+use mathlib.Core.Logic.{_↔_}
 use mathlib.Core.List.{List, [], _∷_, _++_}
 use Prim.Native.Nat.{ℕ, _*_, _-_, _≤_}
 use lib.IntN.{ℤ, pos}
@@ -28,6 +31,9 @@ use Rattle.claims.specs.Demand3.{answersFor}
 
 abbrev pub keptOf : List ℤ → ℕ → List ℤ
 keptOf l n = take (2 * n) (listAfter l)
+
+abbrev pub SticksOut : List Point → Point → Type 0
+SticksOut P p = In p P × ((K : List Point) → ((q : Point) → In q K → In q P) → (In p K → ⊥) → Mean K p → ⊥)
 
 pub record SameAnswers (l k : List ℤ) : Type 0 where
   pub full : Enclosure
@@ -53,7 +59,8 @@ pub record HullPoints : Type 0 where
   -- "A row keeps its two ends, a lone corner itself."
   pub row : (P : List Point) (a b : Point) → In a P → In b P → Row P a b → IsHull P (a ∷ b ∷ [])
   pub lone : (P : List Point) (a : Point) → In a P → ((p : Point) → In p P → p ≡ a) → IsHull P (a ∷ [])
-  -- no point of the list lies outside the hull: each is a mean of corners
+  -- "Outlines stripped to what sticks out.": the corners are the points that do, and no point of the list lies outside the hull, since each is a mean of corners
+  pub corners : (P H : List Point) → IsHull P H → (p : Point) → In p H ↔ SticksOut P p
   pub inside : (P H : List Point) → IsHull P H → (p : Point) → In p P → Mean H p
   -- "The disk, first rim set, record and cutting radius of the kept corners are those of the full list; the test count is that of the kept list."
   pub same : (l : List ℤ) (n : ℕ) → reduceOf l ≡ given n → SameAnswers l (keptOf l n)
