@@ -9,19 +9,20 @@
 --   side-next, side-skip : the points of one more column, and of more columns without points
 use mathlib.Core.Path.{_≡_, refl, sym, ap, subst, _∙_}
 use mathlib.Core.Logic.{_⊎_, inl, inr, _≢_}
-use mathlib.Core.Bool.{Bool, true, false, not}
-use mathlib.Core.List.{List, [], _∷_, _++_, append-nil, reverse, List·Memᴰ·head, List·Memᴰ·not-nil, List·Memᴰ·append-cases, Memᴰ·append-left, Memᴰ·append-right, Memᴰ·cast}
-use Prim.Native.Nat.{ℕ, zero, suc, _+_, _*_, _/_, _%_, _^_, _≤_, _<_}
+use mathlib.Core.Bool.{Bool, true, false}
+use mathlib.Core.List.{List, [], _∷_, _++_, append-nil, List·Memᴰ·head, List·Memᴰ·not-nil, List·Memᴰ·append-cases, Memᴰ·append-left}
+use mathlib.Core.List.{Memᴰ·append-right, Memᴰ·cast}
+use Prim.Native.Nat.{ℕ, zero, suc, _+_, _/_, _≤_, _<_}
 use native.Mathlib.Decide.{ℕ-discrete}
 use native.Mathlib.Numerals.{add-one}
 use native.Mathlib.Omega.{arith}
-use lib.Dec.{T}
 use lib.IntN.{ℤ, pos, negsuc, natAbs}
 use lib.ListN.{length, getD, set, replicate, length-set, length-replicate, getD-replicate}
 use lib.Seq.{getD-set-same, getD-set-other}
-use lib.Bits.{bitOr}
-use lib.Signed.{ltZ, leZ, ltZ-no}
+use lib.Signed.{ltZ}
 use Rattle.integers.specs.Order.{_≼_, _≺_}
+use Rattle.integers.proofs.Tests.{test-true}
+use Rattle.integers.proofs.Bounds.{lt-true, lt-false}
 use Rattle.integers.proofs.Order.{≤-refl, ≤-of-eq, ≤-of-<, ≤-trans, <-≤-clash, le-pos}
 use Rattle.geometry.specs.declared.Point.{Point}
 use Rattle.geometry.specs.EmBox.{em, Inside}
@@ -47,12 +48,6 @@ pub greater-old : (a b : ℤ) → ltZ a b ≡ false → greater a b ≡ a
 unfolding greater
 greater-old a b e = rw e
 
-pub yes-less : (a b : ℤ) → ltZ a b ≡ true → a ≺ b
-yes-less a b e = record { lt = subst T (sym e) tt }
-
-pub not-less : (a b : ℤ) → ltZ a b ≡ false → b ≼ a
-not-less a b e = ltZ-no {a = a} {b = b} (subst (λ (t : Bool). T (not t)) (sym e) tt)
-
 pub data Picked (a b r : ℤ) : Type 0 where
   old : r ≡ a → Picked a b r
   new : r ≡ b → Picked a b r
@@ -75,15 +70,15 @@ pub lesser-least : (a b : ℤ) → (lesser a b ≼ a) × (lesser a b ≼ b)
 lesser-least a b = go (ltZ b a) refl
   where
     go : (t : Bool) → ltZ b a ≡ t → (lesser a b ≼ a) × (lesser a b ≼ b)
-    go true e = rw (lesser-new a b e) (≤-of-< (yes-less b a e), ≤-refl b)
-    go false e = rw (lesser-old a b e) (≤-refl a, not-less b a e)
+    go true e = rw (lesser-new a b e) (≤-of-< (lt-true b a e), ≤-refl b)
+    go false e = rw (lesser-old a b e) (≤-refl a, lt-false b a e)
 
 pub greater-most : (a b : ℤ) → (a ≼ greater a b) × (b ≼ greater a b)
 greater-most a b = go (ltZ a b) refl
   where
     go : (t : Bool) → ltZ a b ≡ t → (a ≼ greater a b) × (b ≼ greater a b)
-    go true e = rw (greater-new a b e) (≤-of-< (yes-less a b e), ≤-refl b)
-    go false e = rw (greater-old a b e) (≤-refl a, not-less a b e)
+    go true e = rw (greater-new a b e) (≤-of-< (lt-true a b e), ≤-refl b)
+    go false e = rw (greater-old a b e) (≤-refl a, lt-false a b e)
 
 -- ---- the em box
 
@@ -179,14 +174,14 @@ module _ {P : List Point} {low high : List ℤ} (c : Columns P low high) (p : Po
     where
       go : (t : Bool) → ltZ (p .y) lo ≡ t → lesser lo (p .y) ≡ p .y
       go true h = lesser-new lo (p .y) h
-      go false h = <-≤-clash (record { lt = tt }) (≤-trans (subst (λ (z : ℤ). z ≼ p .y) e (not-less (p .y) lo h)) (b .to-top))
+      go false h = <-≤-clash (record { lt = tt }) (≤-trans (subst (λ (z : ℤ). z ≼ p .y) e (lt-false (p .y) lo h)) (b .to-top))
 
   high-new : hi ≡ negsuc 32767 → greater hi (p .y) ≡ p .y
   high-new e = go (ltZ hi (p .y)) refl
     where
       go : (t : Bool) → ltZ hi (p .y) ≡ t → greater hi (p .y) ≡ p .y
       go true h = greater-new hi (p .y) h
-      go false h = <-≤-clash (record { lt = tt }) (≤-trans (b .from-foot) (subst (λ (z : ℤ). p .y ≼ z) e (not-less hi (p .y) h)))
+      go false h = <-≤-clash (record { lt = tt }) (≤-trans (b .from-foot) (subst (λ (z : ℤ). p .y ≼ z) e (lt-false hi (p .y) h)))
 
   column-there : Column P k lo hi → Column P′ k (lesser lo (p .y)) (greater hi (p .y))
   column-there (none e f) = some (here (lesser lo (p .y)) (low-new e)) (here (greater hi (p .y)) (high-new f))
@@ -270,21 +265,6 @@ pub column-one : (x lo hi y : ℤ) → ltZ hi lo ≡ false → columnPoint x lo 
 unfolding columnPoint
 column-one x lo hi y e = rw e
 
-pub column-most : (x lo hi y : ℤ) → length (columnPoint x lo hi y) ≤ 1
-column-most x lo hi y = go (ltZ hi lo) refl
-  where
-    go : (s : Bool) → ltZ hi lo ≡ s → length (columnPoint x lo hi y) ≤ 1
-    go true e = rw (column-empty x lo hi y e) (omega arith)
-    go false e = rw (column-one x lo hi y e) (omega arith)
-
--- there is at most one, so it is the same reversed
-pub column-back : (x lo hi y : ℤ) → reverse (columnPoint x lo hi y) ≡ columnPoint x lo hi y
-column-back x lo hi y = go (ltZ hi lo) refl
-  where
-    go : (s : Bool) → ltZ hi lo ≡ s → reverse (columnPoint x lo hi y) ≡ columnPoint x lo hi y
-    go true e = rw (column-empty x lo hi y e)
-    go false e = rw (column-one x lo hi y e)
-
 pub side-none : (low high ys : List ℤ) → side 0 low high ys ≡ []
 unfolding side
 side-none low high ys = refl
@@ -294,20 +274,14 @@ pub side-next : (k : ℕ) (low high ys : List ℤ)
 unfolding side
 side-next k low high ys = rw (add-one k)
 
-yes-ltZ : (a b : ℤ) → a ≺ b → ltZ a b ≡ true
-yes-ltZ a b h = go (ltZ a b) refl
-  where
-    go : (t : Bool) → ltZ a b ≡ t → ltZ a b ≡ true
-    go true e = e
-    go false e = <-≤-clash h (not-less a b e)
-
 -- columns without points
-pub side-skip : (d x y : ℕ) (low high ys : List ℤ) → y ≡ x + d → ((j : ℕ) → x ≤ j → j < y → getD high j (pos 0) ≺ getD low j (pos 0)) → side y low high ys ≡ side x low high ys
+pub side-skip : (d x y : ℕ) (low high ys : List ℤ) → y ≡ x + d → ((j : ℕ) → x ≤ j → j < y → getD high j (pos 0) ≺ getD low j (pos 0))
+    → side y low high ys ≡ side x low high ys
 side-skip zero x y low high ys e f = let same : y ≡ x = omega arith in ap (λ (k : ℕ). side k low high ys) same
 side-skip (suc d) x y low high ys e f =
     let next : y ≡ x + d + 1 = omega arith in
     ap (λ (k : ℕ). side k low high ys) next ∙ side-next (x + d) low high ys
     ∙ ap {B = List Point} (λ Q. side (x + d) low high ys ++ Q)
     (column-empty (pos (x + d)) (getD low (x + d) (pos 0)) (getD high (x + d) (pos 0)) (getD ys (x + d) (pos 0))
-    (yes-ltZ (getD high (x + d) (pos 0)) (getD low (x + d) (pos 0)) (f (x + d) (omega arith) (omega arith))))
+    (test-true (ltZ (getD high (x + d) (pos 0)) (getD low (x + d) (pos 0))) (f (x + d) (omega arith) (omega arith) .lt)))
     ∙ append-nil (side (x + d) low high ys) ∙ side-skip d x (x + d) low high ys refl (λ j u v. f j u (omega arith))

@@ -8,7 +8,8 @@
 use mathlib.Core.Path.{_≡_, refl, sym, subst}
 use mathlib.Core.Logic.{_⊎_, inl, inr}
 use mathlib.Core.Bool.{Bool, true, false}
-use mathlib.Core.List.{List, [], _∷_, _++_, reverse, List·Memᴰ·head, List·Memᴰ·tail, List·Memᴰ·not-nil, List·Memᴰ·append-cases, Memᴰ·append-left, Memᴰ·append-right}
+use mathlib.Core.List.{List, [], _∷_, _++_, reverse, List·Memᴰ·head, List·Memᴰ·tail, List·Memᴰ·not-nil, List·Memᴰ·append-cases, Memᴰ·append-left}
+use mathlib.Core.List.{Memᴰ·append-right}
 use Prim.Native.Nat.{ℕ, zero, suc, _+_, _≤_, _<_}
 use native.Mathlib.Decide.{ℕ-discrete}
 use native.Mathlib.Omega.{arith}
@@ -17,6 +18,7 @@ use lib.IntN.{ℤ, pos, negsuc, natAbs}
 use lib.ListN.{length, getD}
 use lib.Signed.{ltZ}
 use Rattle.integers.specs.Order.{_≼_, _≺_}
+use Rattle.integers.proofs.Bounds.{lt-true, lt-false}
 use Rattle.integers.proofs.Order.{≤-trans, ≤-to-<, <-≤-clash, <-trans, pos-le}
 use Rattle.geometry.specs.declared.Point.{Point}
 use Rattle.geometry.specs.Order.{before}
@@ -28,7 +30,7 @@ use Rattle.point_lists.proofs.Order.{by-x, is-before}
 use Rattle.hull.proofs.HullOf.{rising-sorted, reverse-falls, reverse-to, reverse-from}
 use Rattle.hull.proofs.TwoSides.{Below, Sides}
 use Rattle.columns.specs.Columns.{at, Column, none, some, Columns, columnPoint, side}
-use Rattle.columns.proofs.ColumnLaws.{yes-less, not-less, box-x, box-column, column-empty, column-one}
+use Rattle.columns.proofs.ColumnLaws.{box-x, box-column, column-empty, column-one}
 
 -- ---- one column
 
@@ -40,8 +42,8 @@ column-cases : (x lo hi y : ℤ) → Cases x lo hi y
 column-cases x lo hi y = go (ltZ hi lo) refl
   where
     go : (s : Bool) → ltZ hi lo ≡ s → Cases x lo hi y
-    go true e = empty (yes-less hi lo e) (column-empty x lo hi y e)
-    go false e = one (not-less hi lo e) (column-one x lo hi y e)
+    go true e = empty (lt-true hi lo e) (column-empty x lo hi y e)
+    go false e = one (lt-false hi lo e) (column-one x lo hi y e)
 
 column-only : (x lo hi y : ℤ) (q : Point) → In q (columnPoint x lo hi y) → (lo ≼ hi) × (q ≡ record { x = x; y = y })
 column-only x lo hi y q i = go (column-cases x lo hi y)
@@ -90,7 +92,8 @@ module _ (low high ys : List ℤ) where
   abbrev this : ℕ → List Point
   this k = columnPoint (pos k) (lo k) (hi k) (ht k)
 
-  side-members : {P : List Point} → ((x : ℕ) → x < 1008 → lo x ≼ hi x → In (at x (ht x)) P) → (k : ℕ) → k ≤ 1008 → (q : Point) → In q (side k low high ys) → In q P
+  side-members : {P : List Point} → ((x : ℕ) → x < 1008 → lo x ≼ hi x → In (at x (ht x)) P) → (k : ℕ) → k ≤ 1008 → (q : Point)
+      → In q (side k low high ys) → In q P
   unfolding side
   side-members {P} f zero h q i = absurd (List·Memᴰ·not-nil i)
   side-members {P} f (suc k) h q i = go (λ j. side-members f k (omega arith) q j) (List·Memᴰ·append-cases (side k low high ys) i)
@@ -160,7 +163,8 @@ module _ {P : List Point} {low high : List ℤ} (c : Columns P low high) (boxed 
     };
     has-high = λ p i. record {
       high = at (natAbs (p .x)) (getD high (natAbs (p .x)) (pos 0));
-      high-in = reverse-to B (at (natAbs (p .x)) (getD high (natAbs (p .x)) (pos 0))) (side-in low high high 1008 (natAbs (p .x)) (box-column p (boxed p i)) (some-there p i));
+      high-in = reverse-to B (at (natAbs (p .x)) (getD high (natAbs (p .x)) (pos 0)))
+          (side-in low high high 1008 (natAbs (p .x)) (box-column p (boxed p i)) (some-there p i));
       high-x = sym (box-x p (boxed p i));
       over = c .high-least p i;
     };

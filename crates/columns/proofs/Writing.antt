@@ -5,7 +5,7 @@
 --   one-more       : a column with points: the two that were put in the next places
 --   gap            : columns without points, passed by
 --   moved          : the same of equal lists and numbers
-use mathlib.Core.Path.{_≡_, refl, sym, ap, _∙_}
+use mathlib.Core.Path.{_≡_, sym, ap, _∙_}
 use mathlib.Core.Bool.{true, false}
 use mathlib.Core.List.{List, [], _∷_, _++_, append-nil, reverse, reverse-append}
 use Prim.Native.Nat.{ℕ, _+_, _-_, _≤_, _<_}
@@ -19,7 +19,7 @@ use Rattle.point_lists.specs.Put.{putAt}
 use Rattle.point_lists.proofs.Put.{length-put}
 use Rattle.hull_chains.specs.Spans.{span}
 use Rattle.hull_chains.proofs.Spanning.{span-end, span-same, put-other, put-span, put-behind}
-use Rattle.columns.specs.Columns.{at, columnPoint, side, Written}
+use Rattle.columns.specs.Columns.{at, side, Written}
 use Rattle.columns.proofs.ColumnLaws.{column-empty, column-one, side-none, side-next, side-skip}
 
 pub written-none : (low high lows highs : List ℤ) → length lows ≡ 2018 → length highs ≡ 2018 → Written 0 0 low high lows highs
@@ -88,7 +88,8 @@ module _ {x m : ℕ} {low high lows highs : List ℤ} (few : m ≤ x) (inside : 
     lows-size = lows-size′;
     highs-size = highs-size′;
     count = omega (arith, w .count, ap length (next low), length-append (side x low high low) (at x lo ∷ []));
-    lowest = put-behind lows m (at x lo) 0 (omega arith) (omega (arith, w .lows-size)) ∙ ap {B = List Point} (λ Q. Q ++ (at x lo ∷ [])) (w .lowest) ∙ sym (next low);
+    lowest = put-behind lows m (at x lo) 0 (omega arith) (omega (arith, w .lows-size)) ∙ ap {B = List Point} (λ Q. Q ++ (at x lo ∷ [])) (w .lowest)
+        ∙ sym (next low);
     highest = ap (λ (k : ℕ). span k 1008 highs′) here
         ∙ put-span highs (1007 - m) (at x hi) 1008 (omega arith) (omega (arith, w .highs-size))
         ∙ ap {B = List Point} (λ k. at x hi ∷ span k 1008 highs) behind

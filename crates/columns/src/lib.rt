@@ -83,7 +83,8 @@ fn put_group(
     highs: &mut [i16],
     m: usize,
 ) -> usize
-    requires { ⌜ (g < 63) × (m ≤ 16 * g) × (length (now low) ≡ 1008) × (length (now high) ≡ 1008) × Written (16 * g) m (now low) (now high) (now lows) (now highs) ⌝ }
+    requires { ⌜ (g < 63) × (m ≤ 16 * g) × (length (now low) ≡ 1008) × (length (now high) ≡ 1008)
+        × Written (16 * g) m (now low) (now high) (now lows) (now highs) ⌝ }
     ensures { λ r. ⌜ (r ≤ 16 * (g + 1)) × Written (16 * (g + 1)) r (now (low .entry)) (now (high .entry)) (now (lows .exit)) (now (highs .exit)) ⌝ }
 {
     let mut k = m;
@@ -101,7 +102,8 @@ pub fn put_columns(
     lows: &mut [i16],
     highs: &mut [i16],
 ) -> usize
-    requires { ⌜ (length (now low) ≡ 1008) × (length (now high) ≡ 1008) × (length (now seen) ≡ 63) × (length (now lows) ≡ 2018) × (length (now highs) ≡ 2018) ⌝ }
+    requires { ⌜ (length (now low) ≡ 1008) × (length (now high) ≡ 1008) × (length (now seen) ≡ 63)
+        × (length (now lows) ≡ 2018) × (length (now highs) ≡ 2018) ⌝ }
     requires { ⌜ ((x : ℕ) → x < 1008 → (getD (now seen) (x / 16) 0 ≡ 1 → ⊥) → getD (now high) x (pos 0) ≺ getD (now low) x (pos 0)) ⌝ }
     ensures { λ r. ⌜ (r ≤ 1008) × Written 1008 r (now (low .entry)) (now (high .entry)) (now (lows .exit)) (now (highs .exit)) ⌝ }
 {

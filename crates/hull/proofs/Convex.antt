@@ -5,13 +5,13 @@
 --   inside       : a disk that holds the corners holds each point that they span
 --   heavy        : the three corners can be named so that the first has a positive weight
 --   a-corner     : a point that they span and that is on the boundary is a corner
-use mathlib.Core.Path.{_≡_, refl, sym, _∙_, ap, subst}
-use mathlib.Core.Logic.{_⊎_, inl, inr, _≢_}
+use mathlib.Core.Path.{_≡_, _∙_, subst}
+use mathlib.Core.Logic.{_⊎_, inl, inr}
 use mathlib.Core.List.{List, [], _∷_, Memᴰ·cast}
 use lib.IntN.{ℤ, pos, negsuc, negℤ, _+ℤ_, _-ℤ_, _*ℤ_}
 use Rattle.integers.specs.Order.{_≼_, _≺_}
 use Rattle.integers.proofs.Ring.{ring, poly, linear, eqn, _&_}
-use Rattle.integers.proofs.Order.{≤-of-<, ≤-of-eq, ≤-or-<, ≤-antisym, nonneg, nonneg-by, clash, le, lt, eq, sq, _⊞_, _⊠_, *-pos, sum-squares-zero, ≡-cancel}
+use Rattle.integers.proofs.Order.{≤-of-<, ≤-or-<, ≤-antisym, nonneg, nonneg-by, clash, le, lt, eq, sq, _⊞_, _⊠_, *-pos, sum-squares-zero, ≡-cancel}
 use Rattle.geometry.specs.declared.Point.{Point}
 use Rattle.point_lists.specs.Sets.{In}
 use Rattle.point_lists.proofs.Sets.{point-path}
@@ -55,10 +55,12 @@ module _ (α β γ a1 a2 b1 b2 c1 c2 p1 p2 f r : ℤ) (hα : pos 0 ≼ α) (hβ 
 
   module _ (on : f *ℤ square p1 p2 ≡ r) where
     pub none-ab : f *ℤ (α *ℤ β *ℤ square (a1 -ℤ b1) (a2 -ℤ b2)) ≡ pos 0
-    none-ab = ≤-antisym (nonneg numbers (room ⊞ spread-bc ⊞ spread-ca ⊞ eq at1 e1 ⊞ eq at2 e2 ⊞ eq (W *ℤ W) on) (search poly depth 40 fits 3000) tt) spread-ab
+    none-ab = ≤-antisym
+        (nonneg numbers (room ⊞ spread-bc ⊞ spread-ca ⊞ eq at1 e1 ⊞ eq at2 e2 ⊞ eq (W *ℤ W) on) (search poly depth 40 fits 3000) tt) spread-ab
 
     pub none-ca : f *ℤ (γ *ℤ α *ℤ square (c1 -ℤ a1) (c2 -ℤ a2)) ≡ pos 0
-    none-ca = ≤-antisym (nonneg numbers (room ⊞ spread-ab ⊞ spread-bc ⊞ eq at1 e1 ⊞ eq at2 e2 ⊞ eq (W *ℤ W) on) (search poly depth 40 fits 3000) tt) spread-ca
+    none-ca = ≤-antisym
+        (nonneg numbers (room ⊞ spread-ab ⊞ spread-bc ⊞ eq at1 e1 ⊞ eq at2 e2 ⊞ eq (W *ℤ W) on) (search poly depth 40 fits 3000) tt) spread-ca
 
 -- a factor that is not zero goes; what is left is a square
 only-same : (k β s t : ℤ) → pos 0 ≺ k → k *ℤ (β *ℤ (s *ℤ s +ℤ t *ℤ t)) ≡ pos 0 → (β *ℤ s ≡ pos 0) × (β *ℤ t ≡ pos 0)
@@ -72,8 +74,10 @@ only-same k β s t h e = sum-squares-zero (β *ℤ s) (β *ℤ t)
     gone = ≡-cancel (positive-not-zero h) zero
 
 -- the mean, where the other two weigh nothing or are the same
-alone : (α β γ a b c p : ℤ) → pos 0 ≺ α +ℤ β +ℤ γ → (α +ℤ β +ℤ γ) *ℤ p ≡ α *ℤ a +ℤ β *ℤ b +ℤ γ *ℤ c → β *ℤ (a -ℤ b) ≡ pos 0 → γ *ℤ (c -ℤ a) ≡ pos 0 → p ≡ a
-alone α β γ a b c p w e f g = ≡-cancel (positive-not-zero w) (linear (α ∷ β ∷ γ ∷ a ∷ b ∷ c ∷ p ∷ []) (eqn (pos 1) e & eqn (negsuc 0) f & eqn (pos 1) g)
+alone : (α β γ a b c p : ℤ) → pos 0 ≺ α +ℤ β +ℤ γ → (α +ℤ β +ℤ γ) *ℤ p ≡ α *ℤ a +ℤ β *ℤ b +ℤ γ *ℤ c
+    → β *ℤ (a -ℤ b) ≡ pos 0 → γ *ℤ (c -ℤ a) ≡ pos 0 → p ≡ a
+alone α β γ a b c p w e f g = ≡-cancel (positive-not-zero w)
+    (linear (α ∷ β ∷ γ ∷ a ∷ b ∷ c ∷ p ∷ []) (eqn (pos 1) e & eqn (negsuc 0) f & eqn (pos 1) g)
     (search poly depth 30) tt)
 
 module _ (α β γ a1 a2 b1 b2 c1 c2 p1 p2 f r : ℤ) (hα : pos 0 ≺ α) (hβ : pos 0 ≼ β) (hγ : pos 0 ≼ γ) (hf : pos 0 ≺ f) (w : pos 0 ≺ α +ℤ β +ℤ γ)
@@ -151,7 +155,8 @@ turned {H} {p} s = record {
     round : (α β γ : ℤ) → α +ℤ β +ℤ γ ≡ β +ℤ γ +ℤ α
     round α β γ = ring (α ∷ β ∷ γ ∷ []) (search poly depth 30) tt
 
-    mean : (α β γ a b c p : ℤ) → (α +ℤ β +ℤ γ) *ℤ p ≡ α *ℤ a +ℤ β *ℤ b +ℤ γ *ℤ c → (β +ℤ γ +ℤ α) *ℤ p ≡ β *ℤ b +ℤ γ *ℤ c +ℤ α *ℤ a
+    mean : (α β γ a b c p : ℤ) → (α +ℤ β +ℤ γ) *ℤ p ≡ α *ℤ a +ℤ β *ℤ b +ℤ γ *ℤ c
+        → (β +ℤ γ +ℤ α) *ℤ p ≡ β *ℤ b +ℤ γ *ℤ c +ℤ α *ℤ a
     mean α β γ a b c p e = linear (α ∷ β ∷ γ ∷ a ∷ b ∷ c ∷ p ∷ []) (eqn (pos 1) e) (search poly depth 30) tt
 
 pub heavy : {H : List Point} {p : Point} → Mean H p → (s : Mean H p) × (pos 0 ≺ s .α)
@@ -161,7 +166,8 @@ heavy {H} {p} s = go (≤-or-< (s .α) (pos 0)) (≤-or-< (s .β) (pos 0)) (≤-
     none : {X : Type 0} (α β γ : ℤ) → pos 0 ≺ α +ℤ β +ℤ γ → α ≼ pos 0 → β ≼ pos 0 → γ ≼ pos 0 → X
     none α β γ w h k l = clash (α ∷ β ∷ γ ∷ []) (lt w ⊞ le h ⊞ le k ⊞ le l) (search poly depth 30) tt
 
-    go : (s .α ≼ pos 0) ⊎ (pos 0 ≺ s .α) → (s .β ≼ pos 0) ⊎ (pos 0 ≺ s .β) → (s .γ ≼ pos 0) ⊎ (pos 0 ≺ s .γ) → (t : Mean H p) × (pos 0 ≺ t .α)
+    go : (s .α ≼ pos 0) ⊎ (pos 0 ≺ s .α) → (s .β ≼ pos 0) ⊎ (pos 0 ≺ s .β) → (s .γ ≼ pos 0) ⊎ (pos 0 ≺ s .γ)
+        → (t : Mean H p) × (pos 0 ≺ t .α)
     go (inr h) k l = (s, h)
     go (inl h) (inr k) l = (turned s, k)
     go (inl h) (inl k) (inr l) = (turned (turned s), l)

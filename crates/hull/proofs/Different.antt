@@ -9,7 +9,7 @@
 use mathlib.Core.Path.{_≡_, refl, sym, _∙_, ap, subst}
 use mathlib.Core.Logic.{_⊎_, inl, inr}
 use mathlib.Core.List.{List, [], _∷_, _++_, List·Memᴰ·head, List·Memᴰ·tail, List·Memᴰ·cases-cons, List·Memᴰ·not-nil, List·Memᴰ·append-cases}
-use Prim.Native.Nat.{ℕ, suc, _≤_, _<_}
+use Prim.Native.Nat.{suc, _≤_, _<_}
 use native.Mathlib.Omega.{arith}
 use lib.Dec.{T}
 use lib.IntN.{pos}
@@ -20,10 +20,10 @@ use Rattle.geometry.specs.Order.{before}
 use Rattle.point_lists.specs.Sets.{In, Different}
 use Rattle.point_lists.specs.Rising.{insert, sorted, Rising}
 use Rattle.point_lists.proofs.Order.{before-not-equal, ByOrder, ahead, behind, level, by-order}
-use Rattle.point_lists.proofs.Rising.{insert-none, insert-ahead, insert-behind, insert-level, sorted-rises, sorted-same, sorted-length}
+use Rattle.point_lists.proofs.Rising.{insert-none, insert-ahead, insert-behind, sorted-rises, sorted-same, sorted-length}
 use Rattle.hull.specs.Hull.{cross, LeftTurns, OnLeft}
 use Rattle.hull.specs.Chains.{push, chain, butLast, inner, around, hullOf}
-use Rattle.hull.proofs.Turns.{turn-on, falling, balance, turned-back}
+use Rattle.hull.proofs.Turns.{falling, balance, turned-back}
 use Rattle.hull.proofs.Unique.{row-of-two}
 use Rattle.hull.proofs.SameDisk.{fewer-or-same}
 use Rattle.hull.proofs.Pushed.{Sorted, last, last-in}
@@ -45,7 +45,8 @@ record Corner (P : List Point) (Less : Point → Point → Type 0) (l : List Poi
 more-corners : {P : List Point} {Less : Point → Point → Type 0} {l : List Point} {x : Point} (c : Point) → Corner P Less l x → Corner P Less (c ∷ l) x
 more-corners c r = record { p = r .p; q = r .q; q-in = List·Memᴰ·tail (r .q-in); turn = r .turn; to = r .to; on = r .on; less = r .less }
 
-corner-at : (P : List Point) (Less : Point → Point → Type 0) (o c : Point) (l : List Point) → LeftTurns (o ∷ c ∷ l) → ((y : Point) → In y P → OnLeft (o ∷ c ∷ l) y)
+corner-at : (P : List Point) (Less : Point → Point → Type 0) (o c : Point) (l : List Point) → LeftTurns (o ∷ c ∷ l)
+    → ((y : Point) → In y P → OnLeft (o ∷ c ∷ l) y)
     → Sorted Less (o ∷ c ∷ l) → (x : Point) → In x (c ∷ l) → (x ≡ last c l → ⊥) → Corner P Less (c ∷ l) x
 corner-at P Less o c [] t f s x i n = go (List·Memᴰ·cases-cons i)
   where
@@ -73,7 +74,8 @@ record Onward (P : List Point) (Less : Point → Point → Type 0) (l : List Poi
   on : (y : Point) → In y P → pos 0 ≼ cross x q y
   less : Less x q
 
-onward-at : (P : List Point) (Less : Point → Point → Type 0) (c : Point) (l : List Point) → ((y : Point) → In y P → OnLeft (c ∷ l) y) → Sorted Less (c ∷ l)
+onward-at : (P : List Point) (Less : Point → Point → Type 0) (c : Point) (l : List Point) → ((y : Point) → In y P → OnLeft (c ∷ l) y)
+    → Sorted Less (c ∷ l)
     → (x : Point) → In x (butLast (c ∷ l)) → Onward P Less (c ∷ l) x
 unfolding butLast
 onward-at P Less c [] f s x i = absurd (List·Memᴰ·not-nil i)
@@ -101,7 +103,8 @@ module _ {P : List Point} (a z b v : Point) (l u : List Point) (c : Chains P a z
       meet : Corner P Rises (b ∷ l) x → Onward P Falls (v ∷ u) x → ⊥
       meet k o = turned-back (k .q) x (o .q) (k .p)
           (balance (k .q) x (o .q) (falling (o .less) (k .less))
-          (row-of-two x (k .q) (o .q) (k .on (o .q) (c .members-back (o .q) (List·Memᴰ·tail (o .q-in)))) (o .on (k .q) (c .members (k .q) (List·Memᴰ·tail (k .q-in))))))
+          (row-of-two x (k .q) (o .q) (k .on (o .q) (c .members-back (o .q) (List·Memᴰ·tail (o .q-in))))
+          (o .on (k .q) (c .members (k .q) (List·Memᴰ·tail (k .q-in))))))
           (k .turn) (k .to (o .q) (c .members-back (o .q) (List·Memᴰ·tail (o .q-in))))
 
       go : (x ≡ a) ⊎ In x (b ∷ l) → ⊥
@@ -164,7 +167,8 @@ sorted-long [] d = refl
 sorted-long (p ∷ l) d = insert-different p (sorted l) (λ i. d .0 (sorted-same l .from p i)) ∙ ap suc (sorted-long l (d .1))
 
 pub different-length : (H P : List Point) → Different H → ((p : Point) → In p H → In p P) → length H ≤ length P
-different-length H P d f = go (fewer-or-same (sorted H) (sorted P) (sorted-rises H) (sorted-rises P) (λ p i. sorted-same P .to p (f p (sorted-same H .from p i))))
+different-length H P d f = go
+    (fewer-or-same (sorted H) (sorted P) (sorted-rises H) (sorted-rises P) (λ p i. sorted-same P .to p (f p (sorted-same H .from p i))))
   where
     go : (sorted H ≡ sorted P) ⊎ (length (sorted H) < length (sorted P)) → length H ≤ length P
     go (inl e) = let same : length (sorted H)

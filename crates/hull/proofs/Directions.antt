@@ -2,10 +2,10 @@
 --
 --   Rises, Falls p q               == p comes before q, and after q
 --   rising-way, falling-way        : what left turns along them say of one another
-use mathlib.Core.Path.{_≡_, refl, sym}
+use mathlib.Core.Path.{refl}
 use mathlib.Core.List.{List, [], _∷_}
 use lib.Dec.{T}
-use lib.IntN.{ℤ, pos, _+ℤ_, _-ℤ_, _*ℤ_}
+use lib.IntN.{ℤ, pos, _-ℤ_, _*ℤ_}
 use Rattle.integers.specs.Order.{_≼_}
 use Rattle.integers.proofs.Ring.{poly}
 use Rattle.integers.proofs.Order.{nonneg, le, _⊞_}
@@ -13,7 +13,7 @@ use Rattle.geometry.specs.declared.Point.{Point}
 use Rattle.geometry.specs.Order.{before}
 use Rattle.point_lists.proofs.Order.{before-trans, before-not-equal}
 use Rattle.hull.specs.Hull.{cross}
-use Rattle.hull.proofs.Turns.{Forward, forward, follows, Ordered, ordered}
+use Rattle.hull.proofs.Turns.{forward, follows, Ordered, ordered}
 use Rattle.hull.proofs.Pushed.{Compared, less, same, more, Direction}
 use Rattle.hull.proofs.Turns as Turns
 
@@ -36,28 +36,34 @@ module _ (p q r s : Point) where
   coordinates = p .x ∷ p .y ∷ q .x ∷ q .y ∷ r .x ∷ r .y ∷ s .x ∷ s .y ∷ []
 
   later-up : Rises p q → Rises q r → Rises r s → pos 0 ≼ cross p q r → pos 0 ≼ cross q r s → pos 0 ≼ cross p r s
-  later-up a b c h k = nonneg coordinates (along p q q r r s a b c (nonneg coordinates h (search poly depth 30) tt) (nonneg coordinates k (search poly depth 30) tt) ⊞ k)
+  later-up a b c h k = nonneg coordinates
+      (along p q q r r s a b c (nonneg coordinates h (search poly depth 30) tt) (nonneg coordinates k (search poly depth 30) tt) ⊞ k)
       (search poly depth 30) tt
 
   later-down : Falls p q → Falls q r → Falls r s → pos 0 ≼ cross p q r → pos 0 ≼ cross q r s → pos 0 ≼ cross p r s
-  later-down a b c h k = nonneg coordinates (along q p r q s r a b c (nonneg coordinates h (search poly depth 30) tt) (nonneg coordinates k (search poly depth 30) tt) ⊞ k)
+  later-down a b c h k = nonneg coordinates
+      (along q p r q s r a b c (nonneg coordinates h (search poly depth 30) tt) (nonneg coordinates k (search poly depth 30) tt) ⊞ k)
       (search poly depth 30) tt
 
   ahead-up : Rises p q → Rises q r → Rises q s → pos 0 ≼ cross p q r → pos 0 ≼ cross q r s → pos 0 ≼ cross p q s
-  ahead-up a b c h k = nonneg coordinates (along p q q r q s a b c (nonneg coordinates h (search poly depth 30) tt) (nonneg coordinates k (search poly depth 30) tt))
+  ahead-up a b c h k = nonneg coordinates
+      (along p q q r q s a b c (nonneg coordinates h (search poly depth 30) tt) (nonneg coordinates k (search poly depth 30) tt))
       (search poly depth 30) tt
 
   ahead-down : Falls p q → Falls q r → Falls q s → pos 0 ≼ cross p q r → pos 0 ≼ cross q r s → pos 0 ≼ cross p q s
-  ahead-down a b c h k = nonneg coordinates (along q p r q s q a b c (nonneg coordinates h (search poly depth 30) tt) (nonneg coordinates k (search poly depth 30) tt))
+  ahead-down a b c h k = nonneg coordinates
+      (along q p r q s q a b c (nonneg coordinates h (search poly depth 30) tt) (nonneg coordinates k (search poly depth 30) tt))
       (search poly depth 30) tt
 
   behind-up : Rises p r → Rises q r → Rises s r → cross p q r ≼ pos 0 → pos 0 ≼ cross q r s → pos 0 ≼ cross p r s
   behind-up a b c h k = nonneg coordinates
-      (along s r q r p r c b a (nonneg coordinates k (search poly depth 30) tt) (nonneg coordinates (le h) (search poly depth 30) tt)) (search poly depth 30) tt
+      (along s r q r p r c b a (nonneg coordinates k (search poly depth 30) tt) (nonneg coordinates (le h) (search poly depth 30) tt))
+      (search poly depth 30) tt
 
   behind-down : Falls p r → Falls q r → Falls s r → cross p q r ≼ pos 0 → pos 0 ≼ cross q r s → pos 0 ≼ cross p r s
   behind-down a b c h k = nonneg coordinates
-      (along r s r q r p c b a (nonneg coordinates k (search poly depth 30) tt) (nonneg coordinates (le h) (search poly depth 30) tt)) (search poly depth 30) tt
+      (along r s r q r p c b a (nonneg coordinates k (search poly depth 30) tt) (nonneg coordinates (le h) (search poly depth 30) tt))
+      (search poly depth 30) tt
 
 compare-up : (p q : Point) → Ordered p q → Compared Rises p q
 compare-up p q (Turns.less h) = less h

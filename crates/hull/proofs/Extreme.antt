@@ -79,7 +79,8 @@ round-is a b R = ap {B = List Point} (λ k. a ∷ b ∷ k) (sym (append-assoc R 
 
 at-corner : {P : List Point} (a b : Point) (R : List Point) → Polygon P a b R → (p : Point) → In p (a ∷ b ∷ R) → Between P p
 at-corner {P} a b R g p i =
-    between p a b (b ∷ (R ++ (a ∷ []))) (subst LeftTurns (round-is a b R) (g .turns)) (λ r j. subst (λ (l : List Point). OnLeft l r) (round-is a b R) (g .beside r j))
+    between p a b (b ∷ (R ++ (a ∷ []))) (subst LeftTurns (round-is a b R) (g .turns))
+    (λ r j. subst (λ (l : List Point). OnLeft l r) (round-is a b R) (g .beside r j))
     (go (List·Memᴰ·cases-cons i))
   where
     go : (p ≡ a) ⊎ In p (b ∷ R) → In p (b ∷ (R ++ (a ∷ [])))
@@ -130,7 +131,8 @@ polygon-extreme {P} {K} {p} b others m =
         j : In r P
         j = others .members r i
 
-        go : (cross (b .o) p r +ℤ cross p (b .q) r ≼ pos 0) ⊎ (pos 0 ≺ cross (b .o) p r +ℤ cross p (b .q) r) → pos 0 ≺ cross (b .o) p r +ℤ cross p (b .q) r
+        go : (cross (b .o) p r +ℤ cross p (b .q) r ≼ pos 0) ⊎ (pos 0 ≺ cross (b .o) p r +ℤ cross p (b .q) r)
+            → pos 0 ≺ cross (b .o) p r +ℤ cross p (b .q) r
         go (inr h) = h
         go (inl h) =
             let z = both-zero (cross (b .o) p r) (cross p (b .q) r) (b .to r j) (b .on r j) h in

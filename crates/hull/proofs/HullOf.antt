@@ -6,21 +6,19 @@
 --   around-hull                 : of a rising list Q, `around Q` is the hull
 --   hull-of                     : IsHull P (hullOf P), for every list P
 --   hullOf-only                 : and only `hullOf P` is
---   hullOf-same                 : lists with the same points have the same hull
 use mathlib.Core.Path.{_≡_, refl, sym, _∙_, ap, subst}
 use mathlib.Core.Logic.{_⊎_, inl, inr}
-use mathlib.Core.List.{List, [], _∷_, _++_, reverse, reverse-cons, List·Memᴰ·head, List·Memᴰ·tail, List·Memᴰ·cases-cons, List·Memᴰ·not-nil, List·Memᴰ·append-cases, Memᴰ·append-left, Memᴰ·append-right}
-use lib.Dec.{T}
+use mathlib.Core.List.{List, [], _∷_, _++_, reverse, reverse-cons, List·Memᴰ·head, List·Memᴰ·tail, List·Memᴰ·cases-cons, List·Memᴰ·not-nil}
+use mathlib.Core.List.{List·Memᴰ·append-cases, Memᴰ·append-left, Memᴰ·append-right}
 use Rattle.geometry.specs.declared.Point.{Point}
-use Rattle.geometry.specs.Order.{before}
-use Rattle.point_lists.specs.Sets.{In, Same}
+use Rattle.point_lists.specs.Sets.{In}
 use Rattle.point_lists.specs.Rising.{sorted, Rising}
-use Rattle.point_lists.proofs.Sets.{also, none-of, same-refl, same-sym}
+use Rattle.point_lists.proofs.Sets.{also, none-of, same-sym}
 use Rattle.point_lists.proofs.Rising.{sorted-rises, sorted-same}
-use Rattle.hull.specs.Hull.{OnLeft, UpTo, IsHull}
+use Rattle.hull.specs.Hull.{UpTo, IsHull}
 use Rattle.hull.specs.Chains.{push, chain, butLast, inner, around, hullOf}
 use Rattle.hull.proofs.Unique.{hull-unique, hull-same}
-use Rattle.hull.proofs.Pushed.{Sorted, last, last-in, up-to-last, Chain, Chained, chained}
+use Rattle.hull.proofs.Pushed.{Sorted, last, last-in, up-to-last, Chained, chained}
 use Rattle.hull.proofs.Directions.{Rises, Falls, rising-way, falling-way}
 use Rattle.hull.proofs.Joined.{Chains, joined}
 
@@ -42,7 +40,8 @@ reverse-from (p ∷ l) x i = go (λ j. reverse-from l x j) (List·Memᴰ·append
     go f (inl j) = List·Memᴰ·tail (f j)
     go f (inr j) = also (λ y. In y (p ∷ l)) (List·Memᴰ·head refl) (none-of (λ y. In y (p ∷ l))) x j
 
-pub sorted-behind : (Less : Point → Point → Type 0) (l : List Point) (p : Point) → Sorted Less l → ((x : Point) → In x l → Less x p) → Sorted Less (l ++ (p ∷ []))
+pub sorted-behind : (Less : Point → Point → Type 0) (l : List Point) (p : Point) → Sorted Less l → ((x : Point) → In x l → Less x p)
+    → Sorted Less (l ++ (p ∷ []))
 sorted-behind Less [] p s f = (none-of (λ q. Less p q), tt)
 sorted-behind Less (q ∷ l) p s f = (
   λ x i. go x (List·Memᴰ·append-cases l i),
@@ -147,6 +146,3 @@ hull-of P = hull-same (same-sym (sorted-same P)) (around-hull (sorted P) (sorted
 
 pub hullOf-only : (P H : List Point) → IsHull P H → H ≡ hullOf P
 hullOf-only P H h = hull-unique H (hullOf P) h (hull-of P)
-
-pub hullOf-same : (P Q : List Point) → Same P Q → hullOf P ≡ hullOf Q
-hullOf-same P Q s = hullOf-only Q (hullOf P) (hull-same s (hull-of P))

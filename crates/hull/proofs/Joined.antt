@@ -8,20 +8,21 @@
 --   joined             : they make the hull of P
 use mathlib.Core.Path.{_≡_, refl, sym, _∙_, ap, subst}
 use mathlib.Core.Logic.{_⊎_, inl, inr}
-use mathlib.Core.List.{List, [], _∷_, _++_, append-assoc, List·Memᴰ·head, List·Memᴰ·tail, List·Memᴰ·cases-cons, List·Memᴰ·not-nil, List·Memᴰ·append-cases}
+use mathlib.Core.List.{List, [], _∷_, _++_, append-assoc, List·Memᴰ·head, List·Memᴰ·tail, List·Memᴰ·cases-cons, List·Memᴰ·not-nil}
+use mathlib.Core.List.{List·Memᴰ·append-cases}
 use lib.Dec.{T}
 use lib.IntN.{ℤ, pos, negsuc, negℤ, _+ℤ_, _-ℤ_, _*ℤ_}
 use Rattle.integers.specs.Order.{_≼_, _≺_}
 use Rattle.integers.proofs.Ring.{ring, poly, linear, eqn, _&_}
-use Rattle.integers.proofs.Order.{≤-antisym, ≤-of-eq, ≤-of-<, ≤-or-<, nonneg, clash, le, lt, eq, _⊞_, _⊠_}
+use Rattle.integers.proofs.Order.{≤-antisym, ≤-of-<, ≤-or-<, nonneg, clash, le, lt, eq, _⊞_, _⊠_}
 use Rattle.geometry.specs.declared.Point.{Point}
 use Rattle.geometry.specs.Order.{before}
 use Rattle.point_lists.specs.Sets.{In}
 use Rattle.point_lists.proofs.Order.{before-not-equal}
-use Rattle.hull.specs.Hull.{cross, LeftTurns, OnLeft, UpTo, round, Polygon, Row, IsHull}
+use Rattle.hull.specs.Hull.{cross, LeftTurns, OnLeft, UpTo, Polygon, Row, IsHull}
 use Rattle.hull.specs.Chains.{butLast}
-use Rattle.hull.proofs.Turns.{forward, parallel, turn-on, turn-swap, row-flat}
-use Rattle.hull.proofs.Pushed.{Sorted, last, last-in, up-to-last}
+use Rattle.hull.proofs.Turns.{forward, parallel, row-flat}
+use Rattle.hull.proofs.Pushed.{Sorted, last, last-in}
 use Rattle.hull.proofs.Directions.{Rises, Falls}
 
 -- ---- where two chains meet
@@ -75,7 +76,8 @@ in-row y c w p r h f = none-left (r .k) (r .l) (cross c w p) (cross y c p)
     (linear (r .k ∷ r .l ∷ y .x ∷ y .y ∷ c .x ∷ c .y ∷ w .x ∷ w .y ∷ p .x ∷ p .y ∷ [])
     (eqn (p .y -ℤ c .y) (r .x-is) & eqn (negℤ (p .x -ℤ c .x)) (r .y-is)) (search poly depth 30) tt) (r .k-some) (r .l-some) f h
 
-not-flat : {X : Type 0} (y c w : Point) → Side y c w → (p q r : Point) → cross y c p ≡ pos 0 → cross y c q ≡ pos 0 → cross y c r ≡ pos 0 → pos 0 ≺ cross p q r → X
+not-flat : {X : Type 0} (y c w : Point) → Side y c w → (p q r : Point) → cross y c p ≡ pos 0 → cross y c q ≡ pos 0 → cross y c r ≡ pos 0
+    → pos 0 ≺ cross p q r → X
 not-flat y c w (both-before s t) p q r hp hq hr h = row-flat y c p q r (forward y c s) hp hq hr h
 not-flat y c w (both-after s t) p q r hp hq hr h = row-flat c y p q r (forward c y s) (other p hp) (other q hq) (other r hr) h
   where
@@ -134,7 +136,8 @@ butLast-in u (v ∷ l) x i = go (λ j. butLast-in v l x j) (List·Memᴰ·cases-
     go f (inl e) = List·Memᴰ·head e
     go f (inr j) = List·Memᴰ·tail (f j)
 
-pub butLast-less : (Less : Point → Point → Type 0) (u : Point) (l : List Point) → Sorted Less (u ∷ l) → (x : Point) → In x (butLast (u ∷ l)) → Less x (last u l)
+pub butLast-less : (Less : Point → Point → Type 0) (u : Point) (l : List Point) → Sorted Less (u ∷ l) → (x : Point) → In x (butLast (u ∷ l))
+    → Less x (last u l)
 unfolding butLast
 butLast-less Less u [] s x i = absurd (List·Memᴰ·not-nil i)
 butLast-less Less u (v ∷ l) s x i = go (λ j. butLast-less Less v l (s .1) x j) (List·Memᴰ·cases-cons i)
@@ -187,7 +190,8 @@ module _ {P : List Point} (a z b v : Point) (l u : List Point) (c : Chains P a z
           (λ y s f. strict t y a b b-in (both-after s ab) f (λ x i. c .left x i .0))
 
   all-turns : Turning P → LeftTurns (a ∷ b ∷ (l ++ (v ∷ (u ++ (b ∷ [])))))
-  all-turns t = join-turns P Rises a b l v (u ++ (b ∷ [])) (c .turns) (subst (λ (e : Point). LeftTurns (e ∷ v ∷ (u ++ (b ∷ [])))) (sym (c .end)) (back-turns t))
+  all-turns t = join-turns P Rises a b l v (u ++ (b ∷ [])) (c .turns)
+      (subst (λ (e : Point). LeftTurns (e ∷ v ∷ (u ++ (b ∷ [])))) (sym (c .end)) (back-turns t))
       (c .rises) (c .left) turn
     where
       turn : (y : Point) → Rises y (last b l) → ((x : Point) → In x P → pos 0 ≼ cross y (last b l) x) → pos 0 ≺ cross y (last b l) v

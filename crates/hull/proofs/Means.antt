@@ -8,14 +8,14 @@ use mathlib.Core.List.{List, [], _∷_, _++_, List·Memᴰ·head, List·Memᴰ·
 use lib.Dec.{T}
 use lib.IntN.{ℤ, pos, negsuc, negℤ, _+ℤ_, _-ℤ_, _*ℤ_}
 use Rattle.integers.specs.Order.{_≼_, _≺_}
-use Rattle.integers.proofs.Ring.{ring, poly, linear, eqn, _&_}
-use Rattle.integers.proofs.Order.{≤-refl, ≤-of-<, ≤-of-eq, ≤-or-<, nonneg, positive, clash, le, lt, eq, nn, _⊞_}
+use Rattle.integers.proofs.Ring.{ring, poly, linear, eqn}
+use Rattle.integers.proofs.Order.{≤-refl, ≤-of-<, ≤-or-<, nonneg, positive, clash, le, lt, eq, nn, _⊞_}
 use Rattle.geometry.specs.declared.Point.{Point}
 use Rattle.geometry.specs.Order.{before}
 use Rattle.point_lists.specs.Sets.{In}
 use Rattle.hull.specs.Hull.{cross, OnLeft, UpTo, round, Polygon, Row, IsHull}
 use Rattle.hull.specs.Means.{Mean}
-use Rattle.hull.proofs.Turns.{Forward, right, up, forward}
+use Rattle.hull.proofs.Turns.{Forward, right, up, forward, not-left}
 
 -- ---- a triangle of the fan
 
@@ -57,7 +57,8 @@ both-sides : {X : Type 0} (s t : ℤ) → t ≡ negℤ s → pos 0 ≺ s → pos
 both-sides s t e hs ht = clash (s ∷ t ∷ []) (lt hs ⊞ ht ⊞ eq (negsuc 0) e) (search poly depth 30) tt
 
 module _ {H : List Point} (O b p : Point) (iO : In O H) where
-  further : (g : Point) (l : List Point) → In g H → ((q : Point) → In q l → In q H) → pos 0 ≺ cross O g p → OnLeft (g ∷ (l ++ (O ∷ b ∷ []))) p → Mean H p
+  further : (g : Point) (l : List Point) → In g H → ((q : Point) → In q l → In q H) → pos 0 ≺ cross O g p → OnLeft (g ∷ (l ++ (O ∷ b ∷ []))) p
+      → Mean H p
   further g [] ig il s left = both-sides (cross O g p) (cross g O p) (opposite-turn O g p) s (left .0)
   further g (h ∷ l) ig il s left = go (further h l (il h (List·Memᴰ·head refl)) (λ q i. il q (List·Memᴰ·tail i))) (≤-or-< (cross O h p) (pos 0))
     where
@@ -107,10 +108,6 @@ between a b p α β ia ib hα hβ w ex ey = record {
 pub itself : {H : List Point} (p : Point) → In p H → Mean H p
 itself p i = between p p p (pos 1) (pos 0) i i (nn 1) (nn 0) (positive [] (nn 0) (search poly depth 30) tt)
     (ring (p .x ∷ []) (search poly depth 30) tt) (ring (p .y ∷ []) (search poly depth 30) tt)
-
-not-left : {x y : ℤ} → Forward x y → pos 0 ≼ x
-not-left (right h) = ≤-of-< h
-not-left (up e h) = ≤-of-eq (sym e)
 
 -- p strictly between a and b, in a row with them
 in-between : {H : List Point} (a b p : Point) → In a H → In b H → T (before a b) → T (before a p) → T (before p b) → cross a b p ≡ pos 0 → Mean H p

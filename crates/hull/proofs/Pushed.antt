@@ -9,15 +9,15 @@
 use mathlib.Core.Path.{_≡_, refl, sym, _∙_, ap, subst}
 use mathlib.Core.Logic.{_⊎_, inl, inr}
 use mathlib.Core.Bool.{Bool, true, false}
-use mathlib.Core.List.{List, [], _∷_, _++_, List·Memᴰ·head, List·Memᴰ·tail, List·Memᴰ·cases-cons, List·Memᴰ·not-nil}
-use lib.Dec.{T}
+use mathlib.Core.List.{List, [], _∷_, List·Memᴰ·head, List·Memᴰ·tail, List·Memᴰ·cases-cons, List·Memᴰ·not-nil}
 use lib.IntN.{ℤ, pos}
-use lib.Signed.{ltZ, ltZ-no}
+use lib.Signed.{ltZ}
 use Rattle.integers.specs.Order.{_≼_, _≺_}
+use Rattle.integers.proofs.Bounds.{lt-true, lt-false}
 use Rattle.integers.proofs.Order.{≤-of-<, ≤-of-eq}
 use Rattle.geometry.specs.declared.Point.{Point}
 use Rattle.point_lists.specs.Sets.{In}
-use Rattle.point_lists.proofs.Sets.{also, none-of}
+use Rattle.point_lists.proofs.Sets.{also}
 use Rattle.hull.specs.Hull.{cross, LeftTurns, OnLeft}
 use Rattle.hull.specs.Chains.{push, chain}
 use Rattle.hull.proofs.Turns.{turn-on, turn-same}
@@ -98,15 +98,10 @@ at-start p c = ≤-of-eq (sym (turn-on p c p ∙ turn-on c p p ∙ turn-same p c
 at-end : (p c q : Point) → q ≡ c → pos 0 ≼ cross p c q
 at-end p c q e = ≤-of-eq (sym (ap (λ (x : Point). cross p c x) e ∙ turn-on p c c ∙ turn-same c p))
 
-is-true : (b : Bool) → b ≡ true → T b
-is-true b e = subst T (sym e) tt
-
-is-false : (a b : ℤ) → ltZ a b ≡ false → b ≼ a
-is-false a b e = ltZ-no {a = a} {b = b} (subst (λ (t : Bool). T (mathlib.Core.Bool.not t)) (sym e) tt)
-
 module _ {Less : Point → Point → Type 0} (d : Direction Less) where
   -- the sides of a chain that p turns left into have p on their left
-  from-behind : (p c e : Point) (l : List Point) → Less p c → Sorted Less (c ∷ e ∷ l) → pos 0 ≼ cross p c e → LeftTurns (c ∷ e ∷ l) → OnLeft (c ∷ e ∷ l) p
+  from-behind : (p c e : Point) (l : List Point) → Less p c → Sorted Less (c ∷ e ∷ l) → pos 0 ≼ cross p c e → LeftTurns (c ∷ e ∷ l)
+      → OnLeft (c ∷ e ∷ l) p
   from-behind p c e [] pc s h t = (subst (λ (z : ℤ). pos 0 ≼ z) (turn-on p c e) h, tt)
   from-behind p c e (f ∷ l) pc s h t = (
     subst (λ (z : ℤ). pos 0 ≼ z) (turn-on p c e) h,
@@ -162,7 +157,7 @@ module _ {Less : Point → Point → Type 0} (d : Direction Less) where
         beside h q i (more k) = d .ahead p c e q pc ce k (≤-of-< h) (left q i .0)
 
         kept : ltZ (pos 0) (cross p c e) ≡ true → Pushed p Q (last e l) (push p (c ∷ e ∷ l))
-        kept b = let h : pos 0 ≺ cross p c e = record { lt = is-true (ltZ (pos 0) (cross p c e)) b } in record {
+        kept b = let h : pos 0 ≺ cross p c e = lt-true (pos 0) (cross p c e) b in record {
           rest = c ∷ e ∷ l;
           is = push-keep p c e l b;
           members = mem;
@@ -174,10 +169,11 @@ module _ {Less : Point → Point → Type 0} (d : Direction Less) where
         }
 
         dropped : ltZ (pos 0) (cross p c e) ≡ false → (q : Point) → In q Q → Less q e → pos 0 ≼ cross p e q
-        dropped b q i k = d .behind p c e q (d .trans p c e pc ce) ce k (is-false (pos 0) (cross p c e) b) (left q i .0)
+        dropped b q i k = d .behind p c e q (d .trans p c e pc ce) ce k (lt-false (pos 0) (cross p c e) b) (left q i .0)
 
         go : (b : Bool) → ltZ (pos 0) (cross p c e) ≡ b
-            → (((q : Point) → In q Q → Less q e → pos 0 ≼ cross p e q) → ((q : Point) → In q Q → (q ≡ last e l) ⊎ (Less q (last e l))) → Pushed p Q (last e l) (push p (e ∷ l)))
+            → (((q : Point) → In q Q → Less q e → pos 0 ≼ cross p e q) → ((q : Point) → In q Q → (q ≡ last e l) ⊎ (Less q (last e l)))
+            → Pushed p Q (last e l) (push p (e ∷ l)))
             → Pushed p Q (last e l) (push p (c ∷ e ∷ l))
         go true b f = kept b
         go false b f = subst (Pushed p Q (last e l)) (sym (push-drop p c e l b)) (f (dropped b) end)

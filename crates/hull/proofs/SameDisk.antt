@@ -18,14 +18,14 @@ use lib.Dec.{T}
 use lib.IntN.{ℤ, pos, _*ℤ_}
 use lib.ListN.{length}
 use Rattle.integers.specs.Order.{_≼_, _≺_}
-use Rattle.integers.proofs.Ring.{ring, poly, linear, eqn}
+use Rattle.integers.proofs.Ring.{poly, linear, eqn}
 use Rattle.integers.proofs.Order.{nonneg, le, nn, positive}
 use Rattle.geometry.specs.declared.Point.{Point}
 use Rattle.geometry.specs.declared.Disk.{Disk}
 use Rattle.geometry.specs.Plane.{distance, holds, onBoundary}
-use Rattle.point_lists.specs.Sets.{In, Same}
+use Rattle.point_lists.specs.Sets.{In}
 use Rattle.point_lists.specs.Rising.{sorted, Rising}
-use Rattle.point_lists.proofs.Sets.{same-refl, same-sym, none-of}
+use Rattle.point_lists.proofs.Sets.{same-refl}
 use Rattle.point_lists.proofs.Order.{before-trans, before-not-equal}
 use Rattle.point_lists.proofs.Rising.{sorted-rises, sorted-same, sorted-length}
 use Rattle.disks.specs.Smallest.{RationalDisk, reach, Fits, Smallest}

@@ -9,19 +9,18 @@
 --   beyond, turned-back    : what a turn at the middle one rules out
 --   Arranged, arranged     == of three points two are equal, or one is in the middle
 --   row-flat               : three points in a row with two others do not turn
-use mathlib.Core.Path.{_≡_, refl, sym, _∙_, ap, subst}
-use mathlib.Core.Logic.{_⊎_, inl, inr}
-use mathlib.Core.Bool.{Bool, true}
-use mathlib.Core.List.{List, [], _∷_}
+use mathlib.Core.Path.{_≡_, sym, _∙_, ap}
+use mathlib.Core.List.{[], _∷_}
 use lib.Dec.{T}
 use lib.IntN.{ℤ, pos, negsuc, negℤ, _+ℤ_, _-ℤ_, _*ℤ_}
 use Rattle.integers.specs.Order.{_≼_, _≺_}
 use Rattle.integers.proofs.Ring.{ring, poly, linear, eqn, _&_}
-use Rattle.integers.proofs.Order.{≤-of-<, ≤-of-eq, nonneg, nonneg-by, positive, clash, le, lt, eq, nn, _⊞_, _⊠_}
+use Rattle.integers.proofs.Tests.{true-test}
+use Rattle.integers.proofs.Order.{≤-of-<, ≤-of-eq, nonneg, nonneg-by, positive, clash, le, lt, eq, _⊞_, _⊠_}
 use Rattle.geometry.specs.declared.Point.{Point}
 use Rattle.geometry.specs.Order.{before}
 use Rattle.point_lists.proofs.Order.{ByCoordinates, by-x, by-y, by-coordinates, ByOrder, ahead, behind, level, by-order}
-use Rattle.hull.specs.Hull.{cross, UpTo}
+use Rattle.hull.specs.Hull.{cross}
 
 -- ---- forward vectors
 
@@ -42,13 +41,15 @@ forward p q t = go (by-coordinates p q t)
     go (by-x h) = right (over (p .x) (q .x) h)
     go (by-y e h) = up (no-step (p .x) (q .x) e) (over (p .y) (q .y) h)
 
-not-left : {x y : ℤ} → Forward x y → pos 0 ≼ x
+pub not-left : {x y : ℤ} → Forward x y → pos 0 ≼ x
 not-left (right h) = ≤-of-< h
 not-left (up e h) = ≤-of-eq (sym e)
 
-pub follows : (ux uy vx vy wx wy : ℤ) → Forward ux uy → Forward vx vy → Forward wx wy → pos 0 ≼ ux *ℤ vy -ℤ uy *ℤ vx → pos 0 ≼ vx *ℤ wy -ℤ vy *ℤ wx
+pub follows : (ux uy vx vy wx wy : ℤ) → Forward ux uy → Forward vx vy → Forward wx wy → pos 0 ≼ ux *ℤ vy -ℤ uy *ℤ vx
+    → pos 0 ≼ vx *ℤ wy -ℤ vy *ℤ wx
     → pos 0 ≼ ux *ℤ wy -ℤ uy *ℤ wx
-follows ux uy vx vy wx wy u (right h) w f g = nonneg-by (ux ∷ uy ∷ vx ∷ vy ∷ wx ∷ wy ∷ []) vx h (not-left u ⊠ g ⊞ not-left w ⊠ f) (search poly depth 30) tt
+follows ux uy vx vy wx wy u (right h) w f g = nonneg-by (ux ∷ uy ∷ vx ∷ vy ∷ wx ∷ wy ∷ []) vx h (not-left u ⊠ g ⊞ not-left w ⊠ f)
+    (search poly depth 30) tt
 follows ux uy vx vy wx wy u (up e h) (right k) f g = clash (vx ∷ vy ∷ wx ∷ wy ∷ []) (g ⊞ lt h ⊠ lt k ⊞ lt h ⊞ lt k ⊞ eq (negℤ wy) e)
     (search poly depth 30) tt
 follows ux uy vx vy wx wy u (up e h) (up d k) f g = nonneg (ux ∷ uy ∷ wx ∷ wy ∷ []) (not-left u ⊠ le (≤-of-< k) ⊞ eq (negℤ uy) d)
@@ -122,7 +123,8 @@ steps-back : (x y z : Point) → (y .x -ℤ z .x) *ℤ (x .y -ℤ y .y) -ℤ (y 
 steps-back x y z = ring (x .x ∷ x .y ∷ y .x ∷ y .y ∷ z .x ∷ z .y ∷ []) (search poly depth 30) tt
 
 pub balance : (x y z : Point) → Mid x y z → cross x y z ≡ pos 0 → Balance x y z
-balance x y z (rising s t) e = let r = parallel (y .x -ℤ x .x) (y .y -ℤ x .y) (z .x -ℤ y .x) (z .y -ℤ y .y) (forward x y s) (forward y z t) (steps x y z ∙ e) in
+balance x y z (rising s t) e = let r = parallel (y .x -ℤ x .x) (y .y -ℤ x .y) (z .x -ℤ y .x) (z .y -ℤ y .y) (forward x y s) (forward y z t)
+    (steps x y z ∙ e) in
     record { k = r .k; l = r .l; k-some = r .k-some; l-some = r .l-some; x-is = r .x-is; y-is = r .y-is }
 balance x y z (falling s t) e = let r = parallel (y .x -ℤ z .x) (y .y -ℤ z .y) (x .x -ℤ y .x) (x .y -ℤ y .y) (forward z y s) (forward y x t)
     (steps-back x y z ∙ ap negℤ e) in
@@ -156,9 +158,6 @@ turned-back x y z w b h f = weighed (b .k) (b .l) (cross w y z) (cross w y x)
 
 -- ---- the order of three points
 
-is-true : {b : Bool} → b ≡ true → T b
-is-true e = subst T (sym e) tt
-
 pub data Ordered (p q : Point) : Type 0 where
   less : T (before p q) → Ordered p q
   same : p ≡ q → Ordered p q
@@ -168,8 +167,8 @@ pub ordered : (p q : Point) → Ordered p q
 ordered p q = go (by-order p q)
   where
     go : ByOrder p q → Ordered p q
-    go (ahead e) = less (is-true e)
-    go (behind e f) = more (is-true f)
+    go (ahead e) = less (true-test e)
+    go (behind e f) = more (true-test f)
     go (level e f s) = same s
 
 pub data Arranged (x y z : Point) : Type 0 where
@@ -201,7 +200,8 @@ arranged x y z = go (ordered x y) (ordered y z) (ordered x z)
 flat-by : {X : Type 0} (d w : ℤ) → pos 0 ≺ d → pos 0 ≺ w → d *ℤ w ≡ pos 0 → X
 flat-by d w hd hw e = clash (d ∷ w ∷ []) (lt hd ⊠ lt hw ⊞ lt hd ⊞ lt hw ⊞ eq (negsuc 0) e) (search poly depth 30) tt
 
-pub row-flat : {X : Type 0} (a b p q r : Point) → Forward (b .x -ℤ a .x) (b .y -ℤ a .y) → cross a b p ≡ pos 0 → cross a b q ≡ pos 0 → cross a b r ≡ pos 0
+pub row-flat : {X : Type 0} (a b p q r : Point) → Forward (b .x -ℤ a .x) (b .y -ℤ a .y) → cross a b p ≡ pos 0 → cross a b q ≡ pos 0
+    → cross a b r ≡ pos 0
     → pos 0 ≺ cross p q r → X
 row-flat a b p q r (right h) hp hq hr t = flat-by (b .x -ℤ a .x) (cross p q r) h t
     (linear (a .x ∷ a .y ∷ b .x ∷ b .y ∷ p .x ∷ p .y ∷ q .x ∷ q .y ∷ r .x ∷ r .y ∷ [])

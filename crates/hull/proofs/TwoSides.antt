@@ -9,19 +9,20 @@ use mathlib.Core.Path.{_≡_, refl, sym, _∙_, ap, subst}
 use mathlib.Core.Logic.{_⊎_, inl, inr}
 use mathlib.Core.List.{List, [], _∷_, _++_, List·Memᴰ·head, List·Memᴰ·tail, List·Memᴰ·not-nil}
 use lib.Dec.{T}
+use lib.IntN.{pos, _-ℤ_}
 use Rattle.integers.specs.Order.{_≼_}
-use Rattle.integers.proofs.Order.{≤-antisym, ≤-trans, ≤-of-eq, ≤-of-<, Compared, less, same, more, compared, <-≤-clash}
+use Rattle.integers.proofs.Ring.{poly}
+use Rattle.integers.proofs.Order.{≤-antisym, ≤-trans, ≤-of-eq, ≤-of-<, Compared, less, same, more, compared, <-≤-clash, nonneg, le, eq, _⊞_, _⊠_}
 use Rattle.geometry.specs.declared.Point.{Point}
 use Rattle.geometry.specs.Order.{before}
 use Rattle.point_lists.specs.Sets.{In}
 use Rattle.point_lists.proofs.Sets.{point-path, also, none-of}
-use Rattle.point_lists.proofs.Order.{ByCoordinates, by-x, by-y, by-coordinates, is-before, before-not-equal}
-use Rattle.hull.specs.Hull.{OnLeft, UpTo, IsHull}
+use Rattle.point_lists.proofs.Order.{ByCoordinates, by-x, by-y, by-coordinates, is-before, before-not-equal, before-trans}
+use Rattle.hull.specs.Hull.{cross, OnLeft, UpTo, IsHull}
 use Rattle.hull.specs.Chains.{push, chain, butLast, inner}
 use Rattle.hull.proofs.Pushed.{Sorted, last, last-in, up-to-last, Chained, chained}
 use Rattle.hull.proofs.Directions.{Rises, Falls, rising-way, falling-way}
 use Rattle.hull.proofs.Joined.{Chains, joined}
-use Rattle.hull.proofs.Columns.{above, below, up-to-trans}
 
 pub record Below (Q : List Point) (p : Point) : Type 0 where
   pub low : Point
@@ -49,6 +50,14 @@ pub record Sides (P A B : List Point) : Type 0 where
   pub has-high : (p : Point) → In p P → Above B p
 
 -- ---- what holds of the lowest points holds above them
+
+above : (a b lo p : Point) → lo .x ≡ p .x → lo .y ≼ p .y → a .x ≼ b .x → pos 0 ≼ cross a b lo → pos 0 ≼ cross a b p
+above a b lo p e h s f = nonneg (a .x ∷ a .y ∷ b .x ∷ b .y ∷ lo .x ∷ lo .y ∷ p .x ∷ p .y ∷ []) (f ⊞ le s ⊠ le h ⊞ eq (b .y -ℤ a .y) e)
+    (search poly depth 30) tt
+
+below : (a b hi p : Point) → hi .x ≡ p .x → p .y ≼ hi .y → b .x ≼ a .x → pos 0 ≼ cross a b hi → pos 0 ≼ cross a b p
+below a b hi p e h s f = nonneg (a .x ∷ a .y ∷ b .x ∷ b .y ∷ hi .x ∷ hi .y ∷ p .x ∷ p .y ∷ []) (f ⊞ le s ⊠ le h ⊞ eq (b .y -ℤ a .y) e)
+    (search poly depth 30) tt
 
 x-rises : (a b : Point) → T (before a b) → a .x ≼ b .x
 x-rises a b t = go (by-coordinates a b t)
@@ -80,6 +89,11 @@ up-to-above p q e h = go (compared (p .y) (q .y))
     go (less k) = inr (is-before (by-y e k))
     go (same k) = inl (point-path e k)
     go (more k) = <-≤-clash k h
+
+up-to-trans : (p q r : Point) → UpTo p q → UpTo q r → UpTo p r
+up-to-trans p q r (inl e) k = subst (λ (x : Point). UpTo x r) (sym e) k
+up-to-trans p q r (inr h) (inl e) = inr (subst (λ (x : Point). T (before p x)) e h)
+up-to-trans p q r (inr h) (inr k) = inr (before-trans p q r h k)
 
 -- ---- the ends of the lists
 
@@ -162,9 +176,11 @@ module _ {P : List Point} (a z : Point) (A B : List Point) (s : Sides P (a ∷ A
     end = lower .is-chain .end ∙ meets .0;
     end-back = upper .is-chain .end ∙ meets .1;
     least = λ p i. let w = s .has-low p i in
-        up-to-trans a (w .low) p (also (λ q. UpTo a q) (inl refl) (λ q j. inr (s .rises .0 q j)) (w .low) (w .low-in)) (up-to-above (w .low) p (w .low-x) (w .under));
+        up-to-trans a (w .low) p (also (λ q. UpTo a q) (inl refl) (λ q j. inr (s .rises .0 q j)) (w .low) (w .low-in))
+        (up-to-above (w .low) p (w .low-x) (w .under));
     greatest = λ p i. let w = s .has-high p i in
-        up-to-trans p (w .high) z (up-to-above p (w .high) (sym (w .high-x)) (w .over)) (also (λ q. UpTo q z) (inl refl) (λ q j. inr (s .falls .0 q j)) (w .high) (w .high-in));
+        up-to-trans p (w .high) z (up-to-above p (w .high) (sym (w .high-x)) (w .over))
+        (also (λ q. UpTo q z) (inl refl) (λ q j. inr (s .falls .0 q j)) (w .high) (w .high-in));
   }
 
   chains-are : chain (a ∷ A) ++ inner (chain (z ∷ B)) ≡ a ∷ (lower .rest ++ butLast (upper .rest))
@@ -190,4 +206,5 @@ two-sides P [] (z ∷ B) s meets = absurd (List·Memᴰ·not-nil (s .has-low z (
 two-sides P (a ∷ A) [] s meets = absurd (List·Memᴰ·not-nil (s .has-high a (s .low-members a (List·Memᴰ·head refl)) .high-in))
 two-sides P (a ∷ []) (z ∷ []) s meets = record { members = s .low-members; corners = alone a z s meets }
 two-sides P (a ∷ []) (z ∷ v ∷ B) s meets = absurd (before-not-equal (last v B) z (s .falls .0 (last v B) (last-in v B)) (meets .1 ∙ meets .0))
-two-sides P (a ∷ b ∷ A) (z ∷ B) s meets = sides-hull a z (b ∷ A) B s meets (subst (λ (q : Point). T (before a q)) (meets .0) (s .rises .0 (last b A) (last-in b A)))
+two-sides P (a ∷ b ∷ A) (z ∷ B) s meets = sides-hull a z (b ∷ A) B s meets
+    (subst (λ (q : Point). T (before a q)) (meets .0) (s .rises .0 (last b A) (last-in b A)))

@@ -7,19 +7,20 @@
 --   hull-unique             : two hulls of the same list are the same list of points
 --   hull-same               : so are those of two lists with the same points
 use mathlib.Core.Path.{_≡_, refl, sym, _∙_, ap, subst}
-use mathlib.Core.Logic.{_⊎_, inl, inr}
+use mathlib.Core.Logic.{inl, inr}
 use mathlib.Core.List.{List, [], _∷_, _++_, List·Memᴰ·head, List·Memᴰ·tail}
 use lib.Dec.{T}
 use lib.IntN.{ℤ, pos, negsuc, negℤ}
 use Rattle.integers.specs.Order.{_≼_, _≺_}
-use Rattle.integers.proofs.Ring.{poly, ring}
-use Rattle.integers.proofs.Order.{≤-of-<, ≤-antisym, nonneg, le, eq, _⊞_}
+use Rattle.integers.proofs.Ring.{poly}
+use Rattle.integers.proofs.Order.{≤-of-<, ≤-antisym, nonneg, eq, _⊞_}
 use Rattle.geometry.specs.declared.Point.{Point}
 use Rattle.geometry.specs.Order.{before}
 use Rattle.point_lists.specs.Sets.{In, Same}
 use Rattle.point_lists.proofs.Order.{before-trans, before-not-equal}
-use Rattle.hull.specs.Hull.{cross, LeftTurns, OnLeft, UpTo, round, Polygon, Row, Corners, IsHull}
-use Rattle.hull.proofs.Turns.{forward, turn-on, turn-swap, no-turn, Mid, rising, falling, balance, beyond, turned-back, Arranged, first-two, last-two, outer-two, first-mid, second-mid, third-mid, arranged, row-flat}
+use Rattle.hull.specs.Hull.{cross, LeftTurns, OnLeft, UpTo, Polygon, Corners, IsHull}
+use Rattle.hull.proofs.Turns.{forward, turn-on, turn-swap, no-turn, Mid, rising, falling, balance, beyond, turned-back, Arranged, first-two}
+use Rattle.hull.proofs.Turns.{last-two, outer-two, first-mid, second-mid, third-mid, arranged, row-flat}
 
 -- ---- the next corner
 
@@ -33,7 +34,8 @@ row-of-two c n m h k = turn-on n c m ∙ flat (cross c m n) (cross c n m) (turn-
 before-clash : {X : Type 0} (p q : Point) → T (before p q) → T (before q p) → X
 before-clash p q s t = absurd (before-not-equal p p (before-trans p q p s t) refl)
 
-module _ (c n m n′ m′ : Point) (n-turn : pos 0 ≺ cross c n n′) (m-turn : pos 0 ≺ cross c m m′) (n-left : pos 0 ≼ cross c n m) (m-left : pos 0 ≼ cross c m n)
+module _ (c n m n′ m′ : Point) (n-turn : pos 0 ≺ cross c n n′) (m-turn : pos 0 ≺ cross c m m′) (n-left : pos 0 ≼ cross c n m)
+    (m-left : pos 0 ≼ cross c m n)
     (n-after : pos 0 ≼ cross n n′ m) (m-after : pos 0 ≼ cross m m′ n) (not : Mid n c m → cross n c m ≡ pos 0 → ⊥) where
   in-row-n : cross c n m ≡ pos 0
   in-row-n = flat (cross c n m) (cross c m n) (turn-swap c n m) n-left m-left
@@ -172,11 +174,13 @@ way a b R g f = record {
   not-yet = λ i. g .once (List·Memᴰ·tail i);
 }
 
-polygon-same : {P : List Point} (a b a′ b′ : Point) (R S : List Point) → Polygon P a b R → Polygon P a′ b′ S → ((p : Point) → In p (a ∷ b ∷ R) → In p P)
+polygon-same : {P : List Point} (a b a′ b′ : Point) (R S : List Point) → Polygon P a b R → Polygon P a′ b′ S
+    → ((p : Point) → In p (a ∷ b ∷ R) → In p P)
     → ((p : Point) → In p (a′ ∷ b′ ∷ S) → In p P) → (a ∷ b ∷ R) ≡ (a′ ∷ b′ ∷ S)
 polygon-same {P} a b a′ b′ R S g h f k = ap {B = List Point} (λ x. x ∷ b ∷ R) first ∙ ap {B = List Point} (λ x. a′ ∷ x ∷ R) second
     ∙ ap {B = List Point} (λ l. a′ ∷ b′ ∷ l) (same-rest a′ b′ (k a′ (List·Memᴰ·head refl)) a′ b′ R S
-    (way a′ b′ R (subst (λ (x : Point). Polygon P a′ x R) second g′) (subst (λ (x : Point). (p : Point) → In p (a′ ∷ x ∷ R) → In p P) second f′)) (way a′ b′ S h k))
+    (way a′ b′ R (subst (λ (x : Point). Polygon P a′ x R) second g′) (subst (λ (x : Point). (p : Point) → In p (a′ ∷ x ∷ R) → In p P) second f′))
+    (way a′ b′ S h k))
   where
     first : a ≡ a′
     first = least-same a a′ (g .least a′ (k a′ (List·Memᴰ·head refl))) (h .least a (f a (List·Memᴰ·head refl)))
@@ -201,7 +205,8 @@ one-point {P} o a b l h k = two-points P a b l (k .corners)
     (h .corners a (k .members a (List·Memᴰ·head refl)) ∙ sym (h .corners b (k .members b (List·Memᴰ·tail (List·Memᴰ·head refl)))))
 
 row-or-polygon : {P : List Point} (o z a b c : Point) (l : List Point) → IsHull P (o ∷ z ∷ []) → IsHull P (a ∷ b ∷ c ∷ l) → ⊥
-row-or-polygon o z a b c l h k = row-flat o z a b c (forward o z (h .corners .ends)) (row a (List·Memᴰ·head refl)) (row b (List·Memᴰ·tail (List·Memᴰ·head refl)))
+row-or-polygon o z a b c l h k = row-flat o z a b c (forward o z (h .corners .ends)) (row a (List·Memᴰ·head refl))
+    (row b (List·Memᴰ·tail (List·Memᴰ·head refl)))
     (row c (List·Memᴰ·tail (List·Memᴰ·tail (List·Memᴰ·head refl)))) (k .corners .turns .0)
   where
     row : (p : Point) → In p (a ∷ b ∷ c ∷ l) → cross o z p ≡ pos 0
@@ -226,7 +231,8 @@ hull-unique (a ∷ b ∷ H) (a′ ∷ []) h k = absurd (one-point a′ a b H k h
 hull-unique (a ∷ b ∷ []) (a′ ∷ b′ ∷ []) h k = row-same a b a′ b′ h k
 hull-unique (a ∷ b ∷ []) (a′ ∷ b′ ∷ c′ ∷ K) h k = absurd (row-or-polygon a b a′ b′ c′ K h k)
 hull-unique (a ∷ b ∷ c ∷ H) (a′ ∷ b′ ∷ []) h k = absurd (row-or-polygon a′ b′ a b c H k h)
-hull-unique (a ∷ b ∷ c ∷ H) (a′ ∷ b′ ∷ c′ ∷ K) h k = polygon-same a b a′ b′ (c ∷ H) (c′ ∷ K) (h .corners) (k .corners) (h .members) (k .members)
+hull-unique (a ∷ b ∷ c ∷ H) (a′ ∷ b′ ∷ c′ ∷ K) h k = polygon-same a b a′ b′ (c ∷ H) (c′ ∷ K) (h .corners) (k .corners) (h .members)
+    (k .members)
 
 -- ---- the hull depends on the points alone
 

@@ -15,8 +15,8 @@ use Prim.Native.Nat.{ℕ, zero, suc, _+_, _*_, _-_, _≤_, _<_, max}
 use native.Mathlib.Omega.{arith}
 use native.Mathlib.Decide.{decLe}
 use lib.IntN.{ℤ, pos}
-use lib.ListN.{length, getD, set, take, drop, length-set, length-drop}
-use lib.Seq.{drop-append-le, take-set-le, getD-set-same, getD-set-other}
+use lib.ListN.{length, getD, set, drop, length-set, length-drop}
+use lib.Seq.{drop-append-le, getD-set-same, getD-set-other}
 use Rattle.geometry.specs.declared.Point.{Point}
 use Rattle.geometry.specs.Points.{points, pointAt, firstPoints}
 use Rattle.geometry.proofs.PointLists.{firstPoints-next, length-firstPoints}
@@ -36,7 +36,8 @@ span-end k n l h f = firstPoints-end n k l f h
 pub span-length : (k n : ℕ) (l : List ℤ) → 2 * n ≤ length l → length (span k n l) ≡ n - k
 span-length k n l f = length-drop k (firstPoints n l) ∙ ap (λ (m : ℕ). m - k) (length-firstPoints n l f)
 
-pub span-same : (d k n : ℕ) (l m : List ℤ) → n ≡ k + d → 2 * n ≤ length l → 2 * n ≤ length m → ((j : ℕ) → k ≤ j → j < n → pointAt l j ≡ pointAt m j)
+pub span-same : (d k n : ℕ) (l m : List ℤ) → n ≡ k + d → 2 * n ≤ length l → 2 * n ≤ length m
+    → ((j : ℕ) → k ≤ j → j < n → pointAt l j ≡ pointAt m j)
     → span k n l ≡ span k n m
 span-same zero k n l m e f g h = span-end k n l (omega arith) f ∙ sym (span-end k n m (omega arith) g)
 span-same (suc d) k n l m e f g h =
@@ -51,7 +52,8 @@ points-most [] = omega arith
 points-most (x ∷ []) = omega arith
 points-most (x ∷ y ∷ l) = omega (arith, points-most l)
 
-pub drop-most : (a e i : ℕ) (l : List ℤ) → a ≤ i → e ≤ i → i ≤ max a e → 2 * a ≤ length l → 2 * e ≤ length l → drop a (firstPoints i l) ≡ drop a (firstPoints e l)
+pub drop-most : (a e i : ℕ) (l : List ℤ) → a ≤ i → e ≤ i → i ≤ max a e → 2 * a ≤ length l → 2 * e ≤ length l
+    → drop a (firstPoints i l) ≡ drop a (firstPoints e l)
 drop-most a e i l h k m fa fe = go (decLe a e)
   where
     go : Dec (a ≤ e) → drop a (firstPoints i l) ≡ drop a (firstPoints e l)
@@ -69,7 +71,8 @@ module _ (l : List ℤ) (i : ℕ) (p : Point) where
   put-there h =
       let x-is : getD (putAt l i p) (2 * i) (pos 0) ≡ p .x =
       getD-set-other (set l (2 * i) (p .x)) (2 * i + 1) (2 * i) (p .y) (pos 0) (omega arith) ∙ getD-set-same l (2 * i) (p .x) (pos 0) (omega arith) in
-      let y-is : getD (putAt l i p) (2 * i + 1) (pos 0) ≡ p .y = getD-set-same (set l (2 * i) (p .x)) (2 * i + 1) (p .y) (pos 0) (simp length-set (omega arith)) in
+      let y-is : getD (putAt l i p) (2 * i + 1) (pos 0) ≡ p .y = getD-set-same (set l (2 * i) (p .x)) (2 * i + 1) (p .y) (pos 0)
+      (simp length-set (omega arith)) in
       λ j. record { x = x-is j; y = y-is j }
 
   pub put-other : (j : ℕ) → j ≢ i → pointAt (putAt l i p) j ≡ pointAt l j

@@ -60,7 +60,8 @@ module _ {Less : Point → Point → Type 0} (d : Direction Less) (a : Point) (A
   added : last a A .y ≢ z .y → Closed Less a A z
   added y = record {
     rest = A ++ (z ∷ []);
-    is = ap (λ (Q : List Point). closed Q z) (front-last a A) ∙ closed-more (last a A) z (front a A) y ∙ ap (λ (Q : List Point). Q ++ (z ∷ [])) (sym (front-last a A));
+    is = ap (λ (Q : List Point). closed Q z) (front-last a A) ∙ closed-more (last a A) z (front a A) y
+        ∙ ap (λ (Q : List Point). Q ++ (z ∷ [])) (sym (front-last a A));
     sorted = sorted-behind Less (a ∷ A) z s (λ q i. behind q (up-to-last Less a A s q i));
     end = last-behind a z A;
     more = λ q i. Memᴰ·append-left (z ∷ []) i;

@@ -1,16 +1,14 @@
 // The convex hull of a list of points, put in the list's place.
 use geometry::Point;
 ghost use mathlib.Core.Path.{_≡_};
-ghost use mathlib.Core.Bool.{true};
-ghost use Prim.Native.Nat.{ℕ, _+_, _-_, _*_, _%_, _≤_, _<_};
+ghost use Prim.Native.Nat.{ℕ, _+_, _-_, _*_, _≤_, _<_};
 ghost use lib.ListN.{length};
-ghost use Rattle.geometry.specs.EmBox.{allInEmBox};
 ghost use Rattle.geometry.specs.Points.{points};
 ghost use Rattle.hull.specs.Chains as Chains;
 ghost use Rattle.hull_chains.specs.Spans.{span};
 ghost use Rattle.columns.specs.Columns.{Columns, Seen};
 ghost use Rattle.joined_chains.specs.Laid.{laid};
-ghost use Rattle.hull_lists.specs.Enclosed.{closed, enclosed, Boxed};
+ghost use Rattle.hull_lists.specs.Enclosed.{closed, enclosedBy, Boxed};
 
 // Writes p behind the first n points of the list, unless the last of them is as high, and returns how many there are then.
 fn close(list: &mut [i16], n: usize, p: Point) -> usize
@@ -29,9 +27,9 @@ fn close(list: &mut [i16], n: usize, p: Point) -> usize
 // The hull of a list, from its m lowest points and its m highest ones, put in front of the list, and zeros behind; returns how many corners it has.
 fn lay(lows: &mut [i16], highs: &mut [i16], m: usize, list: &mut [i16]) -> usize
     requires { ⌜ (1 ≤ m) × (m ≤ 1008) × (length (now lows) ≡ 2018) × (length (now highs) ≡ 2018) ⌝ }
-    requires { ⌜ 2 * length (enclosed (span 0 m (now lows)) (span (1008 - m) 1008 (now highs))) ≤ length (now list) ⌝ }
-    ensures size { λ r. ⌜ r ≡ length (enclosed (span 0 m (now (lows .entry))) (span (1008 - m) 1008 (now (highs .entry)))) ⌝ }
-    ensures left { λ r. ⌜ now (list .exit) ≡ laid (enclosed (span 0 m (now (lows .entry))) (span (1008 - m) 1008 (now (highs .entry)))) (length (now (list .entry))) ⌝ }
+    requires { ⌜ 2 * length (enclosedBy m (now lows) (now highs)) ≤ length (now list) ⌝ }
+    ensures size { λ r. ⌜ r ≡ length (enclosedBy m (now (lows .entry)) (now (highs .entry))) ⌝ }
+    ensures left { λ r. ⌜ now (list .exit) ≡ laid (enclosedBy m (now (lows .entry)) (now (highs .entry))) (length (now (list .entry))) ⌝ }
 {
     let a = geometry::point_at(lows, 0);
     let z = geometry::point_at(highs, 1008 - m);

@@ -5,9 +5,7 @@ ghost use Prim.Native.Nat.{_+_, _-_, _*_, _≤_};
 ghost use lib.IntN.{pos};
 ghost use lib.ListN.{length, take, drop, replicate};
 ghost use Rattle.geometry.specs.Points.{firstPoints};
-ghost use Rattle.hull.specs.Chains as Chains;
-ghost use Rattle.hull_chains.specs.Spans.{span};
-ghost use Rattle.joined_chains.specs.Laid.{laid};
+ghost use Rattle.joined_chains.specs.Laid.{laid, joined};
 
 // Copies the points of `from` from point a on up to point e behind the first k points of the list, and returns how many there are then.
 fn copy_points(from: &[i16], a: usize, e: usize, list: &mut [i16], k: usize) -> usize
@@ -45,9 +43,9 @@ pub fn join(
     list: &mut [i16],
 ) -> usize
     requires { ⌜ (2 * n ≤ length (now lower)) × (l ≤ n) × (n ≤ 4096) × (2 * v ≤ length (now upper)) × (u + 1 ≤ v) × (v ≤ 4096) ⌝ }
-    requires { ⌜ 2 * length (span l n (now lower) ++ Chains.inner (span u v (now upper))) ≤ length (now list) ⌝ }
-    ensures size { λ r. ⌜ r ≡ length (span l n (now (lower .entry)) ++ Chains.inner (span u v (now (upper .entry)))) ⌝ }
-    ensures left { λ r. ⌜ now (list .exit) ≡ laid (span l n (now (lower .entry)) ++ Chains.inner (span u v (now (upper .entry)))) (length (now (list .entry))) ⌝ }
+    requires { ⌜ 2 * length (joined l n (now lower) u v (now upper)) ≤ length (now list) ⌝ }
+    ensures size { λ r. ⌜ r ≡ length (joined l n (now (lower .entry)) u v (now (upper .entry))) ⌝ }
+    ensures left { λ r. ⌜ now (list .exit) ≡ laid (joined l n (now (lower .entry)) u v (now (upper .entry))) (length (now (list .entry))) ⌝ }
 {
     let k = copy_points(lower, l, n, list, 0);
     let m = copy_points(upper, u + 1, v - 1, list, k);

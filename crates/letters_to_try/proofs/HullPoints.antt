@@ -2,7 +2,7 @@
 --
 --   reductions-answer : each is answered so, and left so
 --   letters-keep      : so many points of the letters A to K are kept
-use mathlib.Core.Path.{_≡_, refl}
+use mathlib.Core.Path.{refl}
 use Rattle.geometry.specs.EmBox.{inBox, allInBox}
 use Rattle.geometry.specs.Points.{points, flat}
 use Rattle.geometry.specs.Order.{before}

@@ -12,20 +12,18 @@ use native.Mathlib.Omega.{arith}
 use lib.IntN.{ℤ, pos}
 use lib.ListN.{length, take, replicate}
 use lib.Seq.{take-at}
-use Rattle.answers.specs.Outcome.{Outcome, given, andThen}
+use Rattle.answers.specs.Outcome.{given}
 use Rattle.answers.proofs.OutcomeLaws.{both-given, given-same}
 use Rattle.geometry.specs.declared.Point.{Point}
 use Rattle.geometry.specs.declared.Disk.{Disk}
-use Rattle.geometry.specs.EmBox.{allInEmBox}
 use Rattle.geometry.specs.Points.{points, flat}
 use Rattle.geometry.proofs.PointLists.{length-flat, points-of-flat}
-use Rattle.geometry.proofs.EmBox.{all-inside, inside-all}
 use Rattle.point_lists.specs.Sets.{has, In}
 use Rattle.point_lists.proofs.Sets.{none-of, also}
 use Rattle.point_lists.proofs.SetTests.{has-in, in-has}
-use Rattle.disks.specs.Procedure.{diskOf, testsOf}
+use Rattle.disks.specs.Procedure.{diskOf}
 use Rattle.disks.specs.Support.{firstSupport}
-use Rattle.engine.specs.Engine.{Enclosure, enclosure, encloseOf}
+use Rattle.engine.specs.Engine.{Enclosure, encloseOf}
 use Rattle.engine.proofs.Accepted.{Accepted, accepted-list, has-point}
 use Rattle.hull.specs.Hull.{IsHull}
 use Rattle.hull.specs.Chains.{hullOf}
@@ -40,7 +38,7 @@ use Rattle.hull_points.proofs.Answers.{given-answer, list-reduced}
 use Rattle.rules.specs.Row.{AllKept}
 use Rattle.rules.specs.Rules.{engineRow}
 use Rattle.rules.proofs.Calls as calls
-use Rattle.claims.specs.Demand3.{Answers, answersFor}
+use Rattle.claims.specs.Demand3.{answersFor}
 use Rattle.requests.specs.HullPoints.{keptOf, SticksOut, SameAnswers, HullPoints}
 
 -- ---- the answers
@@ -127,7 +125,8 @@ module _ (l : List ℤ) (e : Enclosure) (h : encloseOf l ≡ given e) where
       let disk : f .disk ≡ e .disk =
       ap (λ (a : Enclosure). a .disk) is ∙ ap diskOf (points-of-flat H) ∙ same-disk P some ∙ sym (ap (λ (a : Enclosure). a .disk) (rules .answer)) in
       let support : f .support ≡ e .support =
-      ap (λ (a : Enclosure). a .support) is ∙ ap firstSupport (points-of-flat H) ∙ same-support P some ∙ sym (ap (λ (a : Enclosure). a .support) (rules .answer)) in
+      ap (λ (a : Enclosure). a .support) is ∙ ap firstSupport (points-of-flat H) ∙ same-support P some
+      ∙ sym (ap (λ (a : Enclosure). a .support) (rules .answer)) in
       record {
         full = e;
         kept = f;

@@ -59,7 +59,7 @@ pub record HullPoints : Type 0 where
   -- "A row keeps its two ends, a lone corner itself."
   pub row : (P : List Point) (a b : Point) → In a P → In b P → Row P a b → IsHull P (a ∷ b ∷ [])
   pub lone : (P : List Point) (a : Point) → In a P → ((p : Point) → In p P → p ≡ a) → IsHull P (a ∷ [])
-  -- "Outlines stripped to what sticks out.": the corners are the points that do, and no point of the list lies outside the hull, since each is a mean of corners
+  -- "Outlines stripped to what sticks out.": the corners are the points that do; and no point of the list lies outside the hull, each is a mean of corners
   pub corners : (P H : List Point) → IsHull P H → (p : Point) → In p H ↔ SticksOut P p
   pub inside : (P H : List Point) → IsHull P H → (p : Point) → In p P → Mean H p
   -- "The disk, first rim set, record and cutting radius of the kept corners are those of the full list; the test count is that of the kept list."

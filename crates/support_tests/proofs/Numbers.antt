@@ -8,25 +8,23 @@
 --   near-x, near-y  : so is the offset of a point of the em box from its centre, times e
 --   s-small         : and its s
 use mathlib.Core.Path.{_≡_, ap, ap₂, _∙_}
-use mathlib.Core.Bool.{Bool, true}
+use mathlib.Core.Bool.{Bool}
 use mathlib.Core.List.{[], _∷_}
-use Prim.Native.Nat.{ℕ, _*_, _^_, _≤_}
+use Prim.Native.Nat.{ℕ, _*_, _≤_}
 use native.Mathlib.Nat.{le-refl, le-trans, mul-le-mul}
 use lib.Dec.{T}
 use lib.IntN.{ℤ, pos, negℤ, natAbs, _+ℤ_, _-ℤ_, _*ℤ_}
-use lib.Signed.{natAbs-le}
 use mir.Syntax.{w16, w64}
 use mir.Val.{SFits, toZ, ofZ}
 use mir.Facts.{toZ-ofZ}
 use Rattle.integers.specs.Order.{_≼_}
 use Rattle.integers.proofs.Tests.{test-true}
-use Rattle.integers.proofs.Bounds.{Value, v-add, v-neg, v-back, v-eq, v-fits, v-abs, reads-as, at-most, within-range}
+use Rattle.integers.proofs.Bounds.{Value, v-back, v-eq, v-abs, reads-as, at-most, within-range}
 use Rattle.integers.proofs.Order.{pos-le, nn-nat, nonneg, le, _⊞_, _⊠_}
 use Rattle.integers.proofs.Ring.{poly}
 use Rattle.geometry.specs.declared.Point.{Point}
 use Rattle.geometry.specs.declared.Disk.{Disk}
 use Rattle.geometry.specs.EmBox.{em, inEmBox, Inside, largest, WithinLimits}
-use Rattle.geometry.proofs.Coordinates.{widened}
 use Rattle.geometry.proofs.EmBox.{inside}
 use Rattle.disks.proofs.Answer.{side}
 use Rattle.support_tests.specs.Tests.{midway, SmallPair, SmallDisk}

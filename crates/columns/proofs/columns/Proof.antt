@@ -1,14 +1,14 @@
 -- `columns::columns` meets its contract. The invariant: the columns are those of the first i points.
 use mathlib.Core.Path.{_≡_, sym, ap, ap₂, subst, _∙_}
 use mathlib.Core.List.{List, _∷_, _++_, []}
-use Prim.Native.Nat.{ℕ, _+_, _-_, _/_, _≤_}
+use Prim.Native.Nat.{_+_, _-_, _/_, _≤_}
 use native.Mathlib.Omega.{arith}
 use lib.Dec.{T}
 use lib.IntN.{ℤ, natAbs}
-use lib.ListN.{length, set}
+use lib.ListN.{length}
 use lib.Signed.{nonNeg, yes-nonNeg}
-use mir.Syntax.{w16, w64}
-use mir.Val.{toZ, ofZ, Fits}
+use mir.Syntax.{w16}
+use mir.Val.{toZ, ofZ}
 use mir.Facts.{toZ-ofZ}
 use Rattle.geometry.specs.declared.Point.{Point}
 use Rattle.geometry.specs.EmBox.{em, Inside}
@@ -103,7 +103,8 @@ loop-again c =
     let y-is = toZ-ofZ (record { sfits = c .before .before .before .before .before .before .struct-told2 .given .1 .0 .1 }) in
     let low-is : c .before .before .before .before .keep-least .last .0 ≡ keptAt lesser low x (p r .y) =
     c .before .before .before .before .keep-least .ensures ∙ ap₂ (keptAt lesser low) (column-is r) y-is in
-    let high-is : c .before .keep-greatest .last .0 ≡ keptAt greater high x (p r .y) = c .before .keep-greatest .ensures ∙ ap₂ (keptAt greater high) (column-is r) y-is in
+    let high-is : c .before .keep-greatest .last .0 ≡ keptAt greater high x (p r .y) = c .before .keep-greatest .ensures
+    ∙ ap₂ (keptAt greater high) (column-is r) y-is in
     let read : firstPoints (i + 1) l ≡ firstPoints i l ++ (p r ∷ []) =
     firstPoints-next i l (omega (arith, more)) ∙ ap (λ (q : Point). firstPoints i l ++ (q ∷ [])) (sym (r .before .before .point-at .ensures)) in (
       omega (arith, more),

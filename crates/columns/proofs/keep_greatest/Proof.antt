@@ -31,7 +31,9 @@ returns c =
     let l = s .args .list .now in
     let x = s .args .x in
     let h = getD l x (pos 0) in
-    ap (set l x) (toZ-ofZ (s .fits .y) ∙ sym (greater-new h (s .args .y) (sym (compared {a = h} (record { sfits = c .before .held .given }) (s .fits .y)) ∙ c .if1 .taken)))
+    ap (set l x)
+    (toZ-ofZ (s .fits .y)
+    ∙ sym (greater-new h (s .args .y) (sym (compared {a = h} (record { sfits = c .before .held .given }) (s .fits .y)) ∙ c .if1 .taken)))
 
 returns-2 : tie.Need-returns-2
 returns-2 c =
@@ -39,7 +41,8 @@ returns-2 c =
     let l = s .args .list .now in
     let x = s .args .x in
     let h = getD l x (pos 0) in
-    sym (ap (set l x) (greater-old h (s .args .y) (sym (compared {a = h} (record { sfits = c .before .held .given }) (s .fits .y)) ∙ c .if1 .left)) ∙ set-getD l x (pos 0))
+    sym (ap (set l x) (greater-old h (s .args .y) (sym (compared {a = h} (record { sfits = c .before .held .given }) (s .fits .y)) ∙ c .if1 .left))
+    ∙ set-getD l x (pos 0))
 
 pub keep-greatest-spec : {M : Type 1} → statement M
 keep-greatest-spec =

@@ -31,7 +31,8 @@ returns c =
     let l = s .args .list .now in
     let x = s .args .x in
     let h = getD l x (pos 0) in
-    ap (set l x) (toZ-ofZ (s .fits .y) ∙ sym (lesser-new h (s .args .y) (sym (compared (s .fits .y) (record { sfits = c .before .held .given })) ∙ c .if1 .taken)))
+    ap (set l x)
+    (toZ-ofZ (s .fits .y) ∙ sym (lesser-new h (s .args .y) (sym (compared (s .fits .y) (record { sfits = c .before .held .given })) ∙ c .if1 .taken)))
 
 returns-2 : tie.Need-returns-2
 returns-2 c =
@@ -39,7 +40,8 @@ returns-2 c =
     let l = s .args .list .now in
     let x = s .args .x in
     let h = getD l x (pos 0) in
-    sym (ap (set l x) (lesser-old h (s .args .y) (sym (compared (s .fits .y) (record { sfits = c .before .held .given })) ∙ c .if1 .left)) ∙ set-getD l x (pos 0))
+    sym (ap (set l x) (lesser-old h (s .args .y) (sym (compared (s .fits .y) (record { sfits = c .before .held .given })) ∙ c .if1 .left))
+    ∙ set-getD l x (pos 0))
 
 pub keep-least-spec : {M : Type 1} → statement M
 keep-least-spec =

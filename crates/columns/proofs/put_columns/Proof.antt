@@ -1,6 +1,6 @@
 -- `columns::put_columns` meets its contract. The invariant: the points of the groups before g are written.
 use mathlib.Core.Path.{_≡_, sym, ap, subst, _∙_}
-use mathlib.Core.Logic.{_⊎_, inl, inr}
+use mathlib.Core.Logic.{inl, inr}
 use Prim.Native.Nat.{ℕ, _+_, _-_, _*_, _/_, _≤_, _<_}
 use native.Mathlib.Omega.{arith}
 use lib.ListN.{getD}
@@ -51,7 +51,8 @@ loop-again c =
       | inr w ↦ (
         omega (arith, w .3, l .inv .1),
         moved (w .1) (w .2) (w .3)
-            (gap (omega arith) (λ j u v. s .pre .1 j (omega (arith, v, more)) (λ e. w .0 .left (ap (λ (k : ℕ). getD (s .args .seen .now) k 0) (group u v) ∙ e))) (l .inv .2)),
+            (gap (omega arith)
+            (λ j u v. s .pre .1 j (omega (arith, v, more)) (λ e. w .0 .left (ap (λ (k : ℕ). getD (s .args .seen .now) k 0) (group u v) ∙ e))) (l .inv .2)),
       )
     ] in
     (omega (arith, more), step .0, step .1)

@@ -1,5 +1,5 @@
 -- `columns::put_group` meets its contract. The invariant: the points of the columns before x are written.
-use mathlib.Core.Path.{_≡_, sym, ap, subst, _∙_}
+use mathlib.Core.Path.{_≡_, sym, subst, _∙_}
 use Prim.Native.Nat.{ℕ, _+_, _-_, _*_, _≤_}
 use native.Mathlib.Omega.{arith}
 use Rattle.columns.specs.Columns.{Written}

@@ -75,7 +75,8 @@ returns c =
     let rest = span (at r .loop .k + 1 + 1) (n r) (l r) in (
       at r .loop .inv .0,
       at r .loop .inv .1,
-      at r .loop .inv .2 ∙ ap (push p) (two r) ∙ push-keep p (b r) (d r) rest (sym (c .before .turns-left .ensures) ∙ c .if1 .taken) ∙ ap {B = List Point} (λ Q. p ∷ Q) (sym (two r)),
+      at r .loop .inv .2 ∙ ap (push p) (two r) ∙ push-keep p (b r) (d r) rest (sym (c .before .turns-left .ensures) ∙ c .if1 .taken)
+          ∙ ap {B = List Point} (λ Q. p ∷ Q) (sym (two r)),
     )
 
 add-k : tie.Need-add-k Inv-loop μ-loop
@@ -91,7 +92,8 @@ loop-again c =
     let rest = span (at r .loop .k + 1 + 1) (n r) (l r) in (
       omega arith,
       omega arith,
-      at r .loop .inv .2 ∙ ap (push p) (two r) ∙ push-drop p (b r) (d r) rest (sym (c .before .turns-left .ensures) ∙ c .if1 .left) ∙ ap (push p) (sym (one r)),
+      at r .loop .inv .2 ∙ ap (push p) (two r) ∙ push-drop p (b r) (d r) rest (sym (c .before .turns-left .ensures) ∙ c .if1 .left)
+          ∙ ap (push p) (sym (one r)),
     )
 
 returns-2 : tie.Need-returns-2 Inv-loop μ-loop

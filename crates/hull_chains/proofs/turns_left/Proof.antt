@@ -14,19 +14,25 @@ first c =
     let m = c .before .before .before in
     let s = m .before .before .before in
     v-mul
-    (minus-value (s .args .b .x) (s .args .a .x) (record { sfits = m .before .before .struct-told .given .0 .1 }) (record { sfits = m .before .struct-told2 .given .0 .1 }) (m .minus .ensures))
-    (minus-value (s .args .c .y) (s .args .a .y) (record { sfits = c .before .before .struct-told3 .given .1 .0 .1 }) (record { sfits = c .before .struct-told4 .given .1 .0 .1 }) (c .minus2 .ensures))
+    (minus-value (s .args .b .x) (s .args .a .x) (record { sfits = m .before .before .struct-told .given .0 .1 })
+    (record { sfits = m .before .struct-told2 .given .0 .1 }) (m .minus .ensures))
+    (minus-value (s .args .c .y) (s .args .a .y) (record { sfits = c .before .before .struct-told3 .given .1 .0 .1 })
+    (record { sfits = c .before .struct-told4 .given .1 .0 .1 }) (c .minus2 .ensures))
 
 abbrev second : (c : tie.After-minus4) → Value (toZ w64 (ofZ w64 (c .before .before .before .minus3 .result)) *ℤ toZ w64 (ofZ w64 (c .minus4 .result)))
 second c =
     let m = c .before .before .before in
     let s = m .before .before .before .before .before .before .before .before .before in
     v-mul
-    (minus-value (s .args .b .y) (s .args .a .y) (record { sfits = m .before .before .struct-told5 .given .1 .0 .1 }) (record { sfits = m .before .struct-told6 .given .1 .0 .1 }) (m .minus3 .ensures))
-    (minus-value (s .args .c .x) (s .args .a .x) (record { sfits = c .before .before .struct-told7 .given .0 .1 }) (record { sfits = c .before .struct-told8 .given .0 .1 }) (c .minus4 .ensures))
+    (minus-value (s .args .b .y) (s .args .a .y) (record { sfits = m .before .before .struct-told5 .given .1 .0 .1 })
+    (record { sfits = m .before .struct-told6 .given .1 .0 .1 }) (m .minus3 .ensures))
+    (minus-value (s .args .c .x) (s .args .a .x) (record { sfits = c .before .before .struct-told7 .given .0 .1 })
+    (record { sfits = c .before .struct-told8 .given .0 .1 }) (c .minus4 .ensures))
 
 abbrev product : (c : tie.After-minus4)
-    → Value (toZ w64 (ofZ w64 (toZ w64 (ofZ w64 (c .before .before .before .before .before .before .before .before .before .minus .result)) *ℤ toZ w64 (ofZ w64 (c .before .before .before .before .before .before .minus2 .result))))
+    → Value (toZ w64
+    (ofZ w64 (toZ w64 (ofZ w64 (c .before .before .before .before .before .before .before .before .before .minus .result)) *ℤ toZ w64
+    (ofZ w64 (c .before .before .before .before .before .before .minus2 .result))))
     -ℤ toZ w64 (ofZ w64 (toZ w64 (ofZ w64 (c .before .before .before .minus3 .result)) *ℤ toZ w64 (ofZ w64 (c .minus4 .result)))))
 product c = v-add (v-back w64 (first (c .before .before .before .before .before .before))) (v-neg (v-back w64 (second c)))
 

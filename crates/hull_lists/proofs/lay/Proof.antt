@@ -31,22 +31,26 @@ module _ (c : tie.After-chain2) where
   B = span (1008 - m) 1008 (s .args .highs .now)
 
   abbrev lower : List Point
-  lower = span (c .before .before .before .chain .result) (c .before .before .before .before .before .before .before .before .before .close .result) (c .before .before .before .chain .last .0)
+  lower = span (c .before .before .before .chain .result) (c .before .before .before .before .before .before .before .before .before .close .result)
+      (c .before .before .before .chain .last .0)
 
   abbrev upper : List Point
   upper = span (c .chain2 .result) (c .before .before .before .before .before .before .close2 .result) (c .chain2 .last .0)
 
   lower-is : lower ≡ chain (closed A (pointAt (s .args .highs .now) (1008 - m)))
   lower-is = c .before .before .before .chain .ensures .1
-      ∙ ap chain (c .before .before .before .before .before .before .before .before .before .close .ensures .1 0 (omega (arith, s .pre .0 .0)) ∙ ap (closed A) (c .before .before .before .before .before .before .before .before .before .before .before .point-at2 .ensures))
+      ∙ ap chain (c .before .before .before .before .before .before .before .before .before .close .ensures .1 0 (omega (arith, s .pre .0 .0))
+      ∙ ap (closed A) (c .before .before .before .before .before .before .before .before .before .before .before .point-at2 .ensures))
 
   upper-is : upper ≡ chain (closed B (pointAt (s .args .lows .now) 0))
   upper-is = c .chain2 .ensures .1
-      ∙ ap chain (c .before .before .before .before .before .before .close2 .ensures .1 (1008 - m) (omega (arith, s .pre .0 .0)) ∙ ap (closed B) (c .before .before .before .before .before .before .before .before .before .before .before .before .before .point-at .ensures))
+      ∙ ap chain (c .before .before .before .before .before .before .close2 .ensures .1 (1008 - m) (omega (arith, s .pre .0 .0))
+      ∙ ap (closed B) (c .before .before .before .before .before .before .before .before .before .before .before .before .before .point-at .ensures))
 
   hull-is : lower ++ inner upper ≡ enclosed A B
   hull-is = ap₂ (λ (C D : List Point). C ++ inner D) lower-is upper-is
-      ∙ sym (enclosed-is (pointAt (s .args .lows .now) 0) (pointAt (s .args .highs .now) (1008 - m)) A B (span 1 m (s .args .lows .now)) (span (1008 - m + 1) 1008 (s .args .highs .now))
+      ∙ sym (enclosed-is (pointAt (s .args .lows .now) 0) (pointAt (s .args .highs .now) (1008 - m)) A B (span 1 m (s .args .lows .now))
+      (span (1008 - m + 1) 1008 (s .args .highs .now))
       (span-step 0 m (s .args .lows .now) (omega (arith, s .pre .0 .0)) (omega (arith, s .pre .0 .1, s .pre .0 .2)))
       (span-step (1008 - m) 1008 (s .args .highs .now) (omega (arith, s .pre .0 .0)) (omega (arith, s .pre .0 .3))))
 
@@ -104,8 +108,11 @@ same-length-3 c = search needs
 returns : tie.Need-returns
 returns c =
     let r = c .before .before .before .before .before .before in
-    let t = s r in
-    (c .before .join .ensures .0 ∙ ap length (hull-is r), c .before .join .ensures .1 ∙ ap (λ (H : List Point). laid H (length (t .args .list .now))) (hull-is r))
+    let t = s r in (
+      c .before .join .ensures .0 ∙ ap length (hull-is r),
+      c .before .join .ensures .1 ∙ ap (λ (H : List Point). laid H (length (t .args .list .now)))
+          (hull-is r),
+    )
 
 pub lay-spec : {M : Type 1} → statement M
 lay-spec =

@@ -41,10 +41,12 @@ module _ (c : tie.After-put-columns) where
   m = c .put-columns .result
 
   hull-is : enclosed (span 0 m (c .put-columns .last .1 .1 .1 .0)) (span (1008 - m) 1008 (c .put-columns .last .1 .1 .1 .1 .0)) ≡ hullOf P
-  hull-is = ap₂ enclosed (c .put-columns .ensures .1 .lowest) (c .put-columns .ensures .1 .highest) ∙ enclosed-only P (side 1008 low high low) (reverse (side 1008 low high high)) (sides-are (s .pre .1) (all-inside P (s .pre .0 .boxed)))
+  hull-is = ap₂ enclosed (c .put-columns .ensures .1 .lowest) (c .put-columns .ensures .1 .highest)
+      ∙ enclosed-only P (side 1008 low high low) (reverse (side 1008 low high high)) (sides-are (s .pre .1) (all-inside P (s .pre .0 .boxed)))
 
   some : 1 ≤ m
-  some = omega (arith, c .put-columns .ensures .1 .count, sides-some (s .pre .1) (all-inside P (s .pre .0 .boxed)) (points-some (s .args .list .now) (s .pre .0 .some)))
+  some = omega
+      (arith, c .put-columns .ensures .1 .count, sides-some (s .pre .1) (all-inside P (s .pre .0 .boxed)) (points-some (s .args .list .now) (s .pre .0 .some)))
 
 slice-aggregate-put-columns : tie.Need-slice-aggregate-put-columns
 slice-aggregate-put-columns c = search needs

@@ -46,7 +46,8 @@ same-length c = search needs
 returns : tie.Need-returns
 returns c =
     let l = now (c .before .before .before .before .before .args .list) in
-    let said : encloseOf l ≡ refused (numberOf (c .before .r .given .0 .0)) = subst (Checks l) (c .before .r .given .1) (c .before .before .before .check .ensures) in
+    let said : encloseOf l ≡ refused (numberOf (c .before .r .given .0 .0)) = subst (Checks l) (c .before .r .given .1)
+    (c .before .before .before .check .ensures) in
     (sym (refused-answer l said), sym (list-refused l said))
 
 same-length-2 : tie.Need-same-length-2

@@ -19,8 +19,13 @@ abbrev μ-loop : tie.MeasureT-loop
 
 loop-holds : tie.Need-loop-holds Inv-loop μ-loop
 loop-holds c =
-    let none : c .args .n - c .args .n ≡ 0 = omega arith in
-    (omega arith, omega arith, refl, sym (ap (λ (k : ℕ). take (c .args .n) (c .args .list .now) ++ replicate k (pos 0)) none ∙ append-nil (take (c .args .n) (c .args .list .now))))
+    let none : c .args .n - c .args .n ≡ 0 = omega arith in (
+      omega arith,
+      omega arith,
+      refl,
+      sym (ap (λ (k : ℕ). take (c .args .n) (c .args .list .now) ++ replicate k (pos 0)) none
+          ∙ append-nil (take (c .args .n) (c .args .list .now))),
+    )
 
 mul-list : tie.Need-mul-list Inv-loop μ-loop
 mul-list c = omega (arith, c .before .loop .inv .2, c .loop-test .taken)

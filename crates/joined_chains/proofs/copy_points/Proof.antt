@@ -16,7 +16,8 @@ use Rattle.joined_chains.proofs.copy_points.Tie as tie
 
 abbrev Inv-loop : tie.InvT-loop
 Inv-loop from a e list₀ k n₀ i₀ list n i =
-    (a ≤ i) × (i ≤ max a e) × (n ≡ k + (i - a)) × (length list ≡ length list₀) × (firstPoints n list ≡ firstPoints k list₀ ++ drop a (firstPoints i from))
+    (a ≤ i) × (i ≤ max a e) × (n ≡ k + (i - a)) × (length list ≡ length list₀)
+    × (firstPoints n list ≡ firstPoints k list₀ ++ drop a (firstPoints i from))
 
 abbrev μ-loop : tie.MeasureT-loop
 μ-loop from a e list₀ k n₀ i₀ list n i = e - i
@@ -29,7 +30,8 @@ loop-holds c =
       omega arith,
       omega arith,
       refl,
-      sym (ap {B = List Point} (λ Q. firstPoints k (c .args .list .now) ++ Q) (firstPoints-end a a (c .args .from .now) (c .pre .0) (omega arith)) ∙ append-nil (firstPoints k (c .args .list .now))),
+      sym (ap {B = List Point} (λ Q. firstPoints k (c .args .list .now) ++ Q) (firstPoints-end a a (c .args .from .now) (c .pre .0) (omega arith))
+          ∙ append-nil (firstPoints k (c .args .list .now))),
     )
 
 point-at-requires : tie.Need-point-at-requires Inv-loop μ-loop
@@ -64,7 +66,8 @@ loop-again c =
     let p = c .before .before .before .point-at .result in
     let more = c .before .before .before .before .loop-test .taken in
     let this : drop a (firstPoints (i + 1) from) ≡ drop a (firstPoints i from) ++ (p ∷ []) =
-    ap (drop a) (firstPoints-next i from (omega (arith, more, s .pre .1)) ∙ ap (λ (q : Point). firstPoints i from ++ (q ∷ [])) (sym (c .before .before .before .point-at .ensures)))
+    ap (drop a) (firstPoints-next i from (omega (arith, more, s .pre .1)) ∙ ap (λ (q : Point). firstPoints i from ++ (q ∷ []))
+    (sym (c .before .before .before .point-at .ensures)))
     ∙ drop-append-le a (firstPoints i from) (p ∷ []) (omega (arith, length-firstPoints i from (omega (arith, more, s .pre .1)), at .loop .inv .0)) in (
       omega (arith, at .loop .inv .0),
       omega (arith, more),

@@ -48,8 +48,12 @@ sub-copy-points c = search needs
 copy-points-requires-2 : tie.Need-copy-points-requires-2
 copy-points-requires-2 c κs =
     let s = c .before .before .before .before in
-    let r = c .before .before in
-    (omega (arith, s .pre .0 .3, s .pre .0 .4), omega (arith, s .pre .0 .3), omega (arith, room s, r .copy-points .ensures .0, r .copy-points .kept .1 .1 .1 .0))
+    let r = c .before .before in (
+      omega (arith, s .pre .0 .3, s .pre .0 .4),
+      omega (arith, s .pre .0 .3),
+      omega
+          (arith, room s, r .copy-points .ensures .0, r .copy-points .kept .1 .1 .1 .0),
+    )
 
 mul-clear : tie.Need-mul-clear
 mul-clear c =
@@ -64,7 +68,8 @@ clear-requires c κs =
     omega (arith, room s, q .ensures .0, r .ensures .0, q .kept .1 .1 .1 .0, r .kept .1 .1 .1 .0)
 
 same-length : tie.Need-same-length
-same-length c = c .before .clear .kept .0 ∙ c .before .before .before .before .copy-points2 .kept .1 .1 .1 .0 ∙ c .before .before .before .before .before .before .before .copy-points .kept .1 .1 .1 .0
+same-length c = c .before .clear .kept .0 ∙ c .before .before .before .before .copy-points2 .kept .1 .1 .1 .0
+    ∙ c .before .before .before .before .before .before .before .copy-points .kept .1 .1 .1 .0
 
 returns : tie.Need-returns
 unfolding points
@@ -81,7 +86,8 @@ returns c =
     omega (arith, q .ensures .0, r .ensures .0, length-append (first s) (second s), first-size s, second-size s) in
     let same : length left ≡ length (s .args .list .now) = q .kept .1 .1 .1 .0 ∙ r .kept .1 .1 .1 .0 in (
       size,
-      c .before .clear .ensures ∙ laid-from (q .result) (length (s .args .list .now)) (first s ++ second s) left all size (omega (arith, room s, q .ensures .0, r .ensures .0, same)) same,
+      c .before .clear .ensures ∙ laid-from (q .result) (length (s .args .list .now)) (first s ++ second s) left all size
+          (omega (arith, room s, q .ensures .0, r .ensures .0, same)) same,
     )
 
 pub join-spec : {M : Type 1} → statement M
