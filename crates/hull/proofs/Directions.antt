@@ -5,15 +5,15 @@
 use mathlib.Core.Path.{refl}
 use mathlib.Core.List.{List, [], _∷_}
 use lib.Dec.{T}
-use lib.IntN.{ℤ, pos, _-ℤ_, _*ℤ_}
+use lib.IntN.{ℤ, pos, negsuc, negℤ, _-ℤ_, _*ℤ_}
 use Rattle.integers.specs.Order.{_≼_}
 use Rattle.integers.proofs.Ring.{poly}
-use Rattle.integers.proofs.Order.{nonneg, le, _⊞_}
+use Rattle.integers.proofs.Order.{≤-of-<, nonneg, nonneg-by, clash, le, lt, eq, _⊞_, _⊠_}
 use Rattle.geometry.specs.declared.Point.{Point}
 use Rattle.geometry.specs.Order.{before}
 use Rattle.point_lists.proofs.Order.{before-trans, before-not-equal}
 use Rattle.hull.specs.Hull.{cross}
-use Rattle.hull.proofs.Turns.{forward, follows, Ordered, ordered}
+use Rattle.hull.proofs.Turns.{Forward, right, up, forward, not-left, follows, Ordered, ordered}
 use Rattle.hull.proofs.Pushed.{Compared, less, same, more, Direction}
 use Rattle.hull.proofs.Turns as Turns
 
@@ -65,6 +65,34 @@ module _ (p q r s : Point) where
       (along r s r q r p c b a (nonneg coordinates k (search poly depth 30) tt) (nonneg coordinates (le h) (search poly depth 30) tt))
       (search poly depth 30) tt
 
+-- ---- a point over the way between two others
+
+module _ (a q t b c : Point) where
+  abbrev five : List ℤ
+  five = a .x ∷ a .y ∷ q .x ∷ q .y ∷ t .x ∷ t .y ∷ b .x ∷ b .y ∷ c .x ∷ c .y ∷ []
+
+  over-up : Rises a q → Rises q t → Rises b c → cross a q t ≼ pos 0 → pos 0 ≼ cross b c a → pos 0 ≼ cross b c t → pos 0 ≼ cross b c q
+  over-up aq qt bc h f g = go (forward a t (before-trans a q t aq qt)) (forward a q aq) (forward q t qt)
+    where
+      go : Forward (t .x -ℤ a .x) (t .y -ℤ a .y) → Forward (q .x -ℤ a .x) (q .y -ℤ a .y) → Forward (t .x -ℤ q .x) (t .y -ℤ q .y) → pos 0 ≼ cross b c q
+      go (right k) u v = nonneg-by five (t .x -ℤ a .x) k (not-left v ⊠ f ⊞ not-left u ⊠ g ⊞ not-left (forward b c bc) ⊠ le h) (search poly depth 40) tt
+      go (up e k) (right u) v = clash five (lt u ⊞ not-left v ⊞ eq (negsuc 0) e) (search poly depth 40) tt
+      go (up e k) (up u m) (right v) = clash five (lt v ⊞ eq (negsuc 0) e ⊞ eq (pos 1) u) (search poly depth 40) tt
+      go (up e k) (up u m) (up v n) = nonneg-by five (t .y -ℤ a .y) k
+          (≤-of-< n ⊠ f ⊞ ≤-of-< m ⊠ g ⊞ eq (negℤ (c .y -ℤ b .y) *ℤ (t .y -ℤ a .y)) u ⊞ eq ((c .y -ℤ b .y) *ℤ (q .y -ℤ a .y)) e) (search poly depth 40) tt
+
+  over-down : Falls a q → Falls q t → Falls b c → cross a q t ≼ pos 0 → pos 0 ≼ cross b c a → pos 0 ≼ cross b c t → pos 0 ≼ cross b c q
+  over-down aq qt bc h f g = go (forward t a (before-trans t q a qt aq)) (forward q a aq) (forward t q qt)
+    where
+      go : Forward (a .x -ℤ t .x) (a .y -ℤ t .y) → Forward (a .x -ℤ q .x) (a .y -ℤ q .y) → Forward (q .x -ℤ t .x) (q .y -ℤ t .y) → pos 0 ≼ cross b c q
+      go (right k) u v = nonneg-by five (a .x -ℤ t .x) k (not-left v ⊠ f ⊞ not-left u ⊠ g ⊞ not-left (forward c b bc) ⊠ le h) (search poly depth 40) tt
+      go (up e k) (right u) v = clash five (lt u ⊞ not-left v ⊞ eq (negsuc 0) e) (search poly depth 40) tt
+      go (up e k) (up u m) (right v) = clash five (lt v ⊞ eq (negsuc 0) e ⊞ eq (pos 1) u) (search poly depth 40) tt
+      go (up e k) (up u m) (up v n) = nonneg-by five (a .y -ℤ t .y) k
+          (≤-of-< n ⊠ f ⊞ ≤-of-< m ⊠ g ⊞ eq ((c .y -ℤ b .y) *ℤ (a .y -ℤ t .y)) u ⊞ eq (negℤ (c .y -ℤ b .y) *ℤ (a .y -ℤ q .y)) e) (search poly depth 40) tt
+
+-- ---- the two directions
+
 compare-up : (p q : Point) → Ordered p q → Compared Rises p q
 compare-up p q (Turns.less h) = less h
 compare-up p q (Turns.same e) = same e
@@ -83,6 +111,7 @@ rising-way = record {
   later = later-up;
   ahead = ahead-up;
   behind = behind-up;
+  over = over-up;
 }
 
 pub falling-way : Direction Falls
@@ -93,4 +122,5 @@ falling-way = record {
   later = later-down;
   ahead = ahead-down;
   behind = behind-down;
+  over = over-down;
 }

@@ -8,6 +8,7 @@
 --   Joined      two chains with the same ends go round a polygon, or are a row
 --   HullOf      `hullOf P` is the hull of P (hull-of), and nothing else is (hullOf-only)
 --   Different   no corner stands twice, so a hull has no more points than the list (hull-length)
+--   Skimmed     a chain over fewer points: those left out cannot be corners (skim-chained)
 --   TwoSides    the chains of the lowest and of the highest points are the hull (two-sides)
 -- what the hull says of the list
 --   Means       every point of the list is a mean of corners (mean)
@@ -21,6 +22,7 @@ pub mod Directions
 pub mod Joined
 pub mod HullOf
 pub mod Different
+pub mod Skimmed
 pub mod TwoSides
 pub mod Means
 pub mod Extreme

@@ -2,3 +2,5 @@
 pub mod Hull
 pub mod Chains
 pub mod Means
+-- of inner contracts
+pub mod Skimmed
