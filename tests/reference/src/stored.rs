@@ -161,19 +161,7 @@ fn circles_in_every_order() -> Vec<Vec<Point>> {
     let square = [(0, 0), (10, 0), (0, 10), (10, 10)];
     let circle = [(10, 5), (8, 9), (5, 10), (1, 8), (2, 1)];
     let lists = [&square[..], &circle[..]].map(letters::points);
-    lists.iter().flat_map(|points| orders(points)).collect()
-}
-
-/// Every order of the points.
-fn orders(points: &[Point]) -> Vec<Vec<Point>> {
-    if points.is_empty() {
-        return vec![vec![]];
-    }
-    let with_first = |first: usize| {
-        let rest = [&points[..first], &points[first + 1..]].concat();
-        orders(&rest).into_iter().map(move |order| [&points[first..=first], &order].concat())
-    };
-    (0..points.len()).flat_map(with_first).collect()
+    lists.iter().flat_map(|points| lists::orders(points)).collect()
 }
 
 /// Short lists of every kind, some lists of a few hundred points, three of 4,096, and lists that cost many tests.
