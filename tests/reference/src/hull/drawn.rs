@@ -195,6 +195,7 @@ mod tests {
     use crate::geometry::cross;
     use crate::hull::{is_in_segment, reduce_to_hull};
     use crate::refusal::Refusal;
+    use crate::smallest::smallest_disk;
     use crate::support::distinct;
 
     /// A drawn list: its points, the different ones of them in rising order, and the corners of its hull.
@@ -252,6 +253,11 @@ mod tests {
             self.corners.len() == 3 && self.different.len() > 3 && (0..self.different.len()).any(is_beside)
         }
 
+        fn is_on_circle(&self) -> bool {
+            let disk = smallest_disk(&self.corners);
+            self.corners.iter().all(|&p| disk.has_on_boundary(p))
+        }
+
         /// Whether eight points or more would be the corners of a hull if the em box's corners were not there.
         fn is_overtopped(&self) -> bool {
             let is_end = |p: &Point| [LEFT, RIGHT].contains(&p.x) && [FOOT, TOP].contains(&p.y);
@@ -277,11 +283,11 @@ mod tests {
     type Test = fn(&Drawn) -> bool;
 
     /// What drawn lists are like, and how many of 4,000 are so at least.
-    const KINDS_OF_LISTS: [(&str, usize, Test); 23] = [
+    const KINDS_OF_LISTS: [(&str, usize, Test); 24] = [
         ("one point", 20, |l| l.points.len() == 1),
-        ("one place again and again", 20, |l| l.points.len() > 1 && l.different.len() == 1),
-        ("a row straight right", 20, |l| l.is_row(|_, y| y == 0)),
-        ("a row straight up", 20, |l| l.is_row(|x, _| x == 0)),
+        ("one place again and again", 50, |l| l.points.len() > 1 && l.different.len() == 1),
+        ("a row straight right", 40, |l| l.is_row(|_, y| y == 0)),
+        ("a row straight up", 40, |l| l.is_row(|x, _| x == 0)),
         ("a rising row", 80, |l| l.is_row(|x, y| x > 0 && y > 0)),
         ("a falling row", 80, |l| l.is_row(|x, y| x > 0 && y < 0)),
         ("a steep row", 20, |l| l.is_row(|x, y| x > 0 && y.abs() / x > 9)),
@@ -293,10 +299,11 @@ mod tests {
         ("four or more in the first column", 300, |l| !l.is_flat() && l.in_column(0) > 3),
         ("four or more in the last column", 300, |l| !l.is_flat() && l.in_column(l.different.len() - 1) > 3),
         ("all are corners", 450, |l| l.corners.len() > 4 && l.corners.len() == l.points.len()),
-        ("all are corners, in the order of the hull", 50, |l| l.corners.len() > 4 && l.corners == l.points),
+        ("all are corners, in the order of the hull", 70, |l| l.corners.len() > 4 && l.corners == l.points),
         ("all are corners, the other way round", 20, |l| l.corners.len() > 4 && l.corners.iter().rev().eq(&l.points)),
         ("three or more within sides", 300, |l| !l.is_flat() && l.on_sides() > 2),
         ("seven corners or more, and more within sides", 60, |l| l.corners.len() > 6 && l.on_sides() > l.corners.len()),
+        ("ten corners or more, all on one circle", 5, |l| l.corners.len() > 9 && l.is_on_circle()),
         ("a corner of the em box undoes corners", 50, Drawn::is_overtopped),
         ("more than 15 corners", 200, |l| l.corners.len() > 15),
         ("more than 35 corners", 20, |l| l.corners.len() > 35),
