@@ -10,6 +10,7 @@
 
 use crate::engine::{accepted_points, flat};
 use crate::geometry::{Disk, Point};
+use crate::hull::corners;
 use crate::inputs::{ChosenCase, FixedCase};
 use crate::limits::{FOOT, LEFT, RIGHT, TOP};
 use crate::lists::{self, KINDS};
@@ -130,10 +131,10 @@ fn through_two(n: usize, random: &mut Random) -> (Vec<Point>, Chosen) {
     (points, if random.chance(40) { Chosen::One(a) } else { Chosen::Two(a, b) })
 }
 
-/// A list of any kind; chosen from it are vertices of the hull, points of the support set, others, neighbours, one twice, or any.
+/// A list of any kind; chosen from it are corners of the hull, points of the support set, others, neighbours, one twice, or any.
 fn of_a_kind(n: usize, random: &mut Random) -> (Vec<Point>, Chosen) {
     let points = lists::draw(random.pick(&KINDS), n, random);
-    let hull = hull(&points);
+    let hull = corners(&points);
     let support = first_support_set(&points, &smallest_disk(&points));
     let mut inner: Vec<Point> = points.iter().copied().filter(|p| !hull.contains(p)).collect();
     if inner.is_empty() {
@@ -160,31 +161,6 @@ fn of_a_kind(n: usize, random: &mut Random) -> (Vec<Point>, Chosen) {
         }
     };
     (points, chosen)
-}
-
-/// The vertices of the convex hull in order. Points within its edges are none.
-fn hull(points: &[Point]) -> Vec<Point> {
-    let mut rising = points.to_vec();
-    rising.sort_unstable();
-    rising.dedup();
-    if rising.len() == 1 {
-        return rising;
-    }
-    let there = left_turns(rising.iter().copied());
-    let back = left_turns(rising.iter().rev().copied());
-    [&there[..there.len() - 1], &back[..back.len() - 1]].concat()
-}
-
-/// The points that are left when all that do not turn to the left are taken out.
-fn left_turns(points: impl Iterator<Item = Point>) -> Vec<Point> {
-    let mut turns: Vec<Point> = Vec::new();
-    for p in points {
-        while matches!(turns[..], [.., a, b] if two_fixed::cross(a, b, p) <= 0) {
-            turns.pop();
-        }
-        turns.push(p);
-    }
-    turns
 }
 
 /// No point, an odd length, a part of the list, or a number beyond an edge of the em box.
@@ -279,9 +255,9 @@ mod tests {
     }
 
     #[test]
-    fn a_point_has_a_disk_exactly_if_it_is_a_vertex_of_the_hull() {
+    fn a_point_has_a_disk_exactly_if_it_is_a_corner_of_the_hull() {
         for case in lists::mixed(2_000, 60) {
-            let hull = hull(&case.points);
+            let hull = corners(&case.points);
             for &p in &case.points {
                 let answer = smallest_disk_through(&flat(&case.points), Chosen::One(p));
                 assert_eq!(answer.is_ok(), hull.contains(&p), "{}: {p:?}", case.name);
@@ -320,7 +296,7 @@ mod tests {
     #[test]
     fn long_lists_by_their_points_on_the_hull() {
         for case in lists::long() {
-            let hull = hull(&case.points);
+            let hull = corners(&case.points);
             for chosen in [Chosen::One(hull[0]), Chosen::Two(hull[0], hull[1 % hull.len()])] {
                 let disk = smallest_disk_through(&flat(&case.points), chosen).unwrap();
                 assert!(disk.holds_all(&case.points) && has_on_boundary(&disk, &chosen.set()), "{}", case.name);

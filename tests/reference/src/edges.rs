@@ -6,6 +6,7 @@
 mod chosen;
 mod descriptions;
 mod drawings;
+mod hull;
 mod records;
 mod sheets;
 mod traced;
@@ -14,6 +15,7 @@ mod two_fixed;
 pub use chosen::choices;
 pub use descriptions::descriptions;
 pub use drawings::drawings;
+pub use hull::reductions;
 pub use records::{readings, writings};
 pub use sheets::{parts, sheets};
 pub use traced::tracings;
@@ -35,6 +37,8 @@ mod tests {
     use super::*;
     use crate::chosen::smallest_disk_through;
     use crate::geometry::Disk;
+    use crate::hull::reduce_to_hull;
+    use crate::letters::points;
     use crate::procedure::{self, Cover};
     use crate::refusal::Refusal;
     use crate::traced::smallest_disk_of_traced;
@@ -78,6 +82,21 @@ mod tests {
             let answer = smallest_disk_of_traced(&given).map_err(Refusal::number);
             let disk = gives.map(|[x, y, e, s]| Disk { x, y, e, s });
             assert_eq!(answer, disk, "{says}: {} numbers, {:?}", given.len(), &given[..given.len().min(15)]);
+        }
+    }
+
+    #[test]
+    fn the_call_for_the_hull_keeps_to_them() {
+        for Edge { says, given, gives } in reductions() {
+            let mut list = given.clone();
+            let answer = reduce_to_hull(&mut list).map_err(Refusal::number);
+            let shown = &given[..given.len().min(30)];
+            assert_eq!(answer, gives.as_ref().map(Vec::len).map_err(|number| *number), "{says}: {shown:?}");
+            let expected = gives.map_or(given.clone(), |kept| {
+                let kept = flat(&points(&kept));
+                [&kept[..], &vec![0; given.len() - kept.len()]].concat()
+            });
+            assert_eq!(list, expected, "{says}: {shown:?}");
         }
     }
 

@@ -45,6 +45,18 @@ pub fn gcd(a: i128, b: i128) -> i128 {
     }
 }
 
+/// (b − a) × (p − a): above 0 where p is to the left of the way from a to b, 0 where the three are in a row.
+pub fn cross(a: Point, b: Point, p: Point) -> i128 {
+    let ((ax, ay), (bx, by), (px, py)) = (a.wide(), b.wide(), p.wide());
+    (bx - ax) * (py - ay) - (by - ay) * (px - ax)
+}
+
+/// (p − a) · (p − b)
+pub fn scalar(a: Point, b: Point, p: Point) -> i128 {
+    let ((ax, ay), (bx, by), (px, py)) = (a.wide(), b.wide(), p.wide());
+    (px - ax) * (px - bx) + (py - ay) * (py - by)
+}
+
 impl Disk {
     /// The disk with centre (x/e, y/e), e other than 0, and `through` on its boundary: written with e at least 1 and no common
     /// divisor of x, y and e.

@@ -14,6 +14,7 @@
 //! | [`two_fixed`] | the smallest disk with two points on its boundary (document 02, item 5), and drawn lists for it |
 //! | [`chosen`] | the smallest disk with one or two points of the list on its boundary (document 02, item 6), and drawn lists for it |
 //! | [`traced`] | the smallest disk of points known only to within a tolerance (document 02, item 7), and drawn lists for it |
+//! | [`hull`] | a list reduced to the corners of its convex hull (document 02, item 8), and drawn lists for it |
 //! | [`engine`] | the disk engine: checks, then the four answers |
 //! | [`description`] | the loader |
 //! | [`drawing`] | points from a drawing program (document 02, item 2) |
@@ -38,6 +39,7 @@ pub mod edges;
 pub mod engine;
 pub mod figures;
 pub mod geometry;
+pub mod hull;
 pub mod inputs;
 pub mod letters;
 pub mod limits;

@@ -86,6 +86,18 @@ pub fn long() -> Vec<Case> {
     KINDS.into_iter().flat_map(|kind| [500, 1_500, MOST_POINTS].map(|n| (kind, n))).map(draw_long).collect()
 }
 
+/// Every order of the points.
+pub fn orders(points: &[Point]) -> Vec<Vec<Point>> {
+    if points.is_empty() {
+        return vec![vec![]];
+    }
+    let with_first = |first: usize| {
+        let rest = [&points[..first], &points[first + 1..]].concat();
+        orders(&rest).into_iter().map(move |order| [&points[first..=first], &order].concat())
+    };
+    (0..points.len()).flat_map(with_first).collect()
+}
+
 fn in_box(n: usize, random: &mut Random, x: (i16, i16), y: (i16, i16)) -> Vec<Point> {
     (0..n).map(|_| Point::new(random.coordinate(x.0, x.1), random.coordinate(y.0, y.1))).collect()
 }
@@ -117,7 +129,8 @@ fn row(n: usize, random: &mut Random) -> Vec<Point> {
     points
 }
 
-fn point_in_box((x, y): (i64, i64)) -> Option<Point> {
+/// The point with these coordinates, if it is in the em box.
+pub fn point_in_box((x, y): (i64, i64)) -> Option<Point> {
     let p = Point::new(i16::try_from(x).ok()?, i16::try_from(y).ok()?);
     p.is_in_em_box().then_some(p)
 }
@@ -167,7 +180,7 @@ fn middle(points: &[Point]) -> Point {
     halfway(*least, *most)
 }
 
-fn halfway(a: Point, b: Point) -> Point {
+pub fn halfway(a: Point, b: Point) -> Point {
     Point::new((a.x + b.x) / 2, (a.y + b.y) / 2)
 }
 

@@ -19,7 +19,7 @@ pub fn first_by_definition(points: &[Point], disk: &Disk) -> SupportSet {
 }
 
 /// The different points in rising order.
-fn distinct(points: &[Point]) -> Vec<Point> {
+pub fn distinct(points: &[Point]) -> Vec<Point> {
     let mut points = points.to_vec();
     points.sort_unstable();
     points.dedup();

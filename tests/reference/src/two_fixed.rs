@@ -6,7 +6,7 @@
 //! where w is positive, from above where it is negative, and a test of p alone where it is 0. The nearest t to 0 that keeps to
 //! all bounds gives the smallest disk.
 
-use crate::geometry::{Disk, Point};
+use crate::geometry::{cross, scalar, Disk, Point};
 use crate::inputs::FixedCase;
 use crate::limits::{FOOT, LEFT, RIGHT, TOP};
 use crate::lists::{self, Kind, KINDS};
@@ -41,18 +41,6 @@ pub fn smallest_through(case: &FixedCase) -> Option<Disk> {
         }
     }
     nearest_to_zero(least, most).map(|t| disk_at(*a, *b, t))
-}
-
-/// (b − a) × (p − a)
-pub fn cross(a: Point, b: Point, p: Point) -> i128 {
-    let ((ax, ay), (bx, by), (px, py)) = (a.wide(), b.wide(), p.wide());
-    (bx - ax) * (py - ay) - (by - ay) * (px - ax)
-}
-
-/// (p − a) · (p − b)
-fn scalar(a: Point, b: Point, p: Point) -> i128 {
-    let ((ax, ay), (bx, by), (px, py)) = (a.wide(), b.wide(), p.wide());
-    (px - ax) * (px - bx) + (py - ay) * (py - by)
 }
 
 /// The number nearest to 0 from `least` to `most`, either of which may be missing: none if `least` is above `most`.

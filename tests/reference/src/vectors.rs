@@ -8,10 +8,12 @@ use crate::drawing::{self, DrawnPoint};
 use crate::engine::{self, flat};
 use crate::figures;
 use crate::geometry::{Disk, Point};
+use crate::hull::reduce_to_hull;
 use crate::inputs::{AppendCase, ChosenCase, FixedCase, LoaderCase, PartCase, SheetCase, WriterCase};
 use crate::listing;
 use crate::procedure::{self, Cover};
 use crate::record;
+use crate::refusal::Refusal;
 use crate::sheet;
 use crate::traced::smallest_disk_of_traced;
 use crate::two_fixed;
@@ -38,6 +40,8 @@ pub enum Call {
     Chosen = b'C' as isize,
     /// The smallest disk of traced points.
     Traced = b'T' as isize,
+    /// A list reduced to the corners of its hull, then the engine on them.
+    Hull = b'H' as isize,
     /// A drawing program's point put behind others, then the engine on them.
     Append = b'A' as isize,
     /// The sheet opener, then the part it found.
@@ -163,6 +167,14 @@ pub fn traced(list: &[i16]) -> Vector {
     Vector { call: Call::Traced, bytes, printed: printed + &format!("left {}\n", list_checksum(list)) }
 }
 
+/// A point list, two bytes a number, high byte first: how many points are kept, the checksum of the whole list after the call, and what the
+/// engine makes of the points kept.
+pub fn hull(mut list: Vec<i16>) -> Vector {
+    let bytes = list.iter().flat_map(|number| number.to_be_bytes()).collect();
+    let answer = reduce_to_hull(&mut list);
+    Vector { call: Call::Hull, bytes, printed: front_printed(answer, &list) }
+}
+
 /// The kind, 1 for whole numbers and 2 for floats; x and y in eight bytes each, floats by their bits; how many points are there in eight
 /// bytes and the lent list's length in two, high byte first; then the numbers at the front of the list. Its checksum after the call is
 /// printed, and where a point was put into it, what the engine makes of the points there now.
@@ -177,14 +189,17 @@ pub fn append(case: &AppendCase) -> Vector {
     bytes.extend(room.to_be_bytes());
     bytes.extend(case.front.iter().flat_map(|number| number.to_be_bytes()));
     let mut list = case.list();
-    let printed = match drawing::append(case.point, &mut list, case.n) {
-        Ok(count) => {
-            let put = format!("points {count}\nlist {}\n", list_checksum(&list));
-            put + &engine(list[..2 * count].to_vec()).printed
-        }
-        Err(refusal) => listing::refused(refusal) + &format!("list {}\n", list_checksum(&list)),
-    };
-    Vector { call: Call::Append, bytes, printed }
+    let answer = drawing::append(case.point, &mut list, case.n);
+    Vector { call: Call::Append, bytes, printed: front_printed(answer, &list) }
+}
+
+/// How many points are at the front of the list, or the refusal; the checksum of the whole list; and what the engine makes of these points.
+fn front_printed(answer: Result<usize, Refusal>, list: &[i16]) -> String {
+    let whole = format!("list {}\n", list_checksum(list));
+    match answer {
+        Ok(count) => format!("points {count}\n{whole}{}", engine(list[..2 * count].to_vec()).printed),
+        Err(refusal) => listing::refused(refusal) + &whole,
+    }
 }
 
 /// k in two bytes, high byte first, then the sheet.
@@ -278,6 +293,17 @@ mod tests {
         assert_eq!(vector.printed, format!("disk 500 -200 1 5000\nleft {}\n", list_checksum(&list)));
         let left = list_checksum(&[500, -200, 51]);
         assert_eq!(traced(&[500, -200, 51]).printed, format!("refused 14\nleft {left}\n"));
+    }
+
+    #[test]
+    fn a_reduced_list_is_printed_whole_and_then_what_the_engine_makes_of_its_corners() {
+        let vector = hull(vec![4, 0, 2, 3, 0, 0, 2, 1]);
+        assert_eq!((vector.call as u8, vector.bytes), (b'H', vec![0, 4, 0, 0, 0, 2, 0, 3, 0, 0, 0, 0, 0, 2, 0, 1]));
+        let (list, left) = (list_checksum(&[0, 0, 4, 0, 2, 3, 0, 0]), list_checksum(&[2, 3, 0, 0, 4, 0]));
+        let letter_f = "disk 12 5 6 169\nrim 0 0 2 3 4 0\nwhole 3\ntests 7\n";
+        assert_eq!(vector.printed, format!("points 3\nlist {list}\n{letter_f}left {left}\n"));
+        let list = list_checksum(&[4, 0, -1]);
+        assert_eq!(hull(vec![4, 0, -1]).printed, format!("refused 9\nlist {list}\n"));
     }
 
     #[test]
