@@ -20,9 +20,11 @@ use Rattle.point_lists.proofs.Sets.{point-path, also, none-of}
 use Rattle.point_lists.proofs.Order.{ByCoordinates, by-x, by-y, by-coordinates, is-before, before-not-equal, before-trans}
 use Rattle.hull.specs.Hull.{cross, OnLeft, UpTo, IsHull}
 use Rattle.hull.specs.Chains.{push, chain, butLast, inner}
-use Rattle.hull.proofs.Pushed.{Sorted, last, last-in, up-to-last, Chained, chained}
+use Rattle.hull.specs.Skimmed.{skimmed, skimChain}
+use Rattle.hull.proofs.Pushed.{Sorted, last, last-in, up-to-last}
 use Rattle.hull.proofs.Directions.{Rises, Falls, rising-way, falling-way}
 use Rattle.hull.proofs.Joined.{Chains, joined}
+use Rattle.hull.proofs.Skimmed.{SkimChained, skim-chained}
 
 pub record Below (Q : List Point) (p : Point) : Type 0 where
   pub low : Point
@@ -155,11 +157,11 @@ module _ {P : List Point} (a z : Point) (A B : List Point) (s : Sides P (a ∷ A
 -- ---- the hull
 
 module _ {P : List Point} (a z : Point) (A B : List Point) (s : Sides P (a ∷ A) (z ∷ B)) (meets : Meet (a ∷ A) (z ∷ B)) where
-  lower : Chained rising-way a A
-  lower = chained rising-way a A (s .rises)
+  lower : SkimChained rising-way a A
+  lower = skim-chained rising-way a A (s .rises)
 
-  upper : Chained falling-way z B
-  upper = chained falling-way z B (s .falls)
+  upper : SkimChained falling-way z B
+  upper = skim-chained falling-way z B (s .falls)
 
   chains : Chains P a z (lower .rest) (upper .rest)
   chains = record {
@@ -183,11 +185,11 @@ module _ {P : List Point} (a z : Point) (A B : List Point) (s : Sides P (a ∷ A
         (also (λ q. UpTo q z) (inl refl) (λ q j. inr (s .falls .0 q j)) (w .high) (w .high-in));
   }
 
-  chains-are : chain (a ∷ A) ++ inner (chain (z ∷ B)) ≡ a ∷ (lower .rest ++ butLast (upper .rest))
+  chains-are : skimChain (a ∷ A) ++ inner (skimChain (z ∷ B)) ≡ a ∷ (lower .rest ++ butLast (upper .rest))
   unfolding inner
-  chains-are = ap {B = List Point} (λ k. k ++ inner (chain (z ∷ B))) (lower .is) ∙ ap {B = List Point} (λ k. (a ∷ lower .rest) ++ inner k) (upper .is)
+  chains-are = ap {B = List Point} (λ k. k ++ inner (skimChain (z ∷ B))) (lower .is) ∙ ap {B = List Point} (λ k. (a ∷ lower .rest) ++ inner k) (upper .is)
 
-  sides-hull : T (before a z) → IsHull P (chain (a ∷ A) ++ inner (chain (z ∷ B)))
+  sides-hull : T (before a z) → IsHull P (skimChain (a ∷ A) ++ inner (skimChain (z ∷ B)))
   sides-hull h = subst (IsHull P) (sym chains-are) (joined a z (lower .rest) (upper .rest) h chains)
 
 alone : {P : List Point} (a z : Point) → Sides P (a ∷ []) (z ∷ []) → Meet (a ∷ []) (z ∷ []) → (p : Point) → In p P → p ≡ a
@@ -199,8 +201,8 @@ alone a z s meets p i =
     point-path (sym (u .low-x) ∙ ap (λ (q : Point). q .x) lo)
     (≤-antisym (subst (λ (q : Point). p .y ≼ q .y) hi (v .over)) (subst (λ (q : Point). q .y ≼ p .y) lo (u .under)))
 
-pub two-sides : (P A B : List Point) → Sides P A B → Meet A B → IsHull P (chain A ++ inner (chain B))
-unfolding chain inner push butLast
+pub two-sides : (P A B : List Point) → Sides P A B → Meet A B → IsHull P (skimChain A ++ inner (skimChain B))
+unfolding skimChain skimmed chain inner push butLast
 two-sides P [] [] s meets = record { members = λ p i. absurd (List·Memᴰ·not-nil i); corners = λ p i. List·Memᴰ·not-nil (s .has-low p i .low-in) }
 two-sides P [] (z ∷ B) s meets = absurd (List·Memᴰ·not-nil (s .has-low z (s .high-members z (List·Memᴰ·head refl)) .low-in))
 two-sides P (a ∷ A) [] s meets = absurd (List·Memᴰ·not-nil (s .has-high a (s .low-members a (List·Memᴰ·head refl)) .high-in))

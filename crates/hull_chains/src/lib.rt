@@ -9,6 +9,7 @@ ghost use lib.Signed.{ltZ};
 ghost use Rattle.geometry.specs.Points.{pointAt};
 ghost use Rattle.hull.specs.Hull.{cross};
 ghost use Rattle.hull.specs.Chains as Chains;
+ghost use Rattle.hull.specs.Skimmed.{isNeeded, skimChain};
 ghost use Rattle.hull_chains.specs.Spans.{span};
 
 // Whether a, b, c turn strictly left.
@@ -51,18 +52,33 @@ fn push(list: &mut [i16], m: usize, n: usize, p: Point) -> usize
     k
 }
 
+// Whether p has to be pushed onto the chain that the points m to n of the list are: not where it lies on the way from a to the chain's first point, or on
+// the left of it. Most points do not, and this test of one is sooner done than the push.
+fn is_needed(list: &[i16], m: usize, n: usize, a: Point, p: Point) -> bool
+    requires { ⌜ (2 * n ≤ length (now list)) × (m ≤ n) × (n ≤ 4096) ⌝ }
+    ensures { λ r. ⌜ r ≡ isNeeded a p (span m n (now (list .entry))) ⌝ }
+{
+    if m < n {
+        return turns_left(a, p, geometry::point_at(list, m));
+    }
+    true
+}
+
 // Makes the points s to n of the list their chain, which ends where they end; returns where it starts.
 pub fn chain(list: &mut [i16], s: usize, n: usize) -> usize
     requires { ⌜ (2 * n ≤ length (now list)) × (s < n) × (n ≤ 4096) ⌝ }
     ensures room { λ r. ⌜ r + 1 ≤ n ⌝ }
-    ensures left { λ r. ⌜ span r n (now (list .exit)) ≡ Chains.chain (span s n (now (list .entry))) ⌝ }
+    ensures left { λ r. ⌜ span r n (now (list .exit)) ≡ skimChain (span s n (now (list .entry))) ⌝ }
 {
+    let a = geometry::point_at(list, s);
     let mut m = n;
     let mut i = n;
-    while s < i {
+    while s + 1 < i {
         i -= 1;
         let p = geometry::point_at(list, i);
-        m = push(list, m, n, p);
+        if is_needed(list, m, n, a, p) {
+            m = push(list, m, n, p);
+        }
     }
-    m
+    push(list, m, n, a)
 }

@@ -11,7 +11,8 @@ use Rattle.integers.specs.Order.{eqZ}
 use Rattle.geometry.specs.declared.Point.{Point}
 use Rattle.integers.proofs.Order.{eqZ-eq, eq-eqZ}
 use Rattle.integers.proofs.Tests.{test-true}
-use Rattle.hull.specs.Chains.{chain, inner}
+use Rattle.hull.specs.Chains.{inner}
+use Rattle.hull.specs.Skimmed.{skimChain}
 use Rattle.hull_lists.specs.Enclosed.{closed, enclosed}
 
 module _ (e p : Point) where
@@ -37,6 +38,6 @@ module _ (e p : Point) where
   closed-more (q ∷ []) h = ap {B = List Point} (λ Q. q ∷ Q) (closed-more [] h)
   closed-more (q ∷ r ∷ Q) h = ap {B = List Point} (λ Q. q ∷ Q) (closed-more (r ∷ Q) h)
 
-pub enclosed-is : (a z : Point) (A B C D : List Point) → A ≡ a ∷ C → B ≡ z ∷ D → enclosed A B ≡ chain (closed A z) ++ inner (chain (closed B a))
+pub enclosed-is : (a z : Point) (A B C D : List Point) → A ≡ a ∷ C → B ≡ z ∷ D → enclosed A B ≡ skimChain (closed A z) ++ inner (skimChain (closed B a))
 unfolding enclosed
 enclosed-is a z A B C D e f = rw (e, f)

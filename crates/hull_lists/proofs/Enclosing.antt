@@ -16,7 +16,8 @@ use Rattle.point_lists.specs.Sets.{In}
 use Rattle.point_lists.proofs.Sets.{point-path, also, none-of}
 use Rattle.point_lists.proofs.Order.{by-y, is-before}
 use Rattle.hull.specs.Hull.{IsHull}
-use Rattle.hull.specs.Chains.{chain, inner, hullOf}
+use Rattle.hull.specs.Chains.{inner, hullOf}
+use Rattle.hull.specs.Skimmed.{skimChain}
 use Rattle.hull.proofs.Pushed.{Direction, Sorted, last, up-to-last}
 use Rattle.hull.proofs.Directions.{Rises, Falls, rising-way, falling-way}
 use Rattle.hull.proofs.HullOf.{hullOf-only, sorted-behind, last-behind}
@@ -122,7 +123,7 @@ module _ {P : List Point} (a z : Point) (A B : List Point) (s : Sides P (a ∷ A
 
   sides-hull : IsHull P (enclosed (a ∷ A) (z ∷ B))
   sides-hull = subst (IsHull P)
-      (sym (enclosed-is a z (a ∷ A) (z ∷ B) A B refl refl ∙ ap₂ (λ (C D : List Point). chain C ++ inner (chain D)) (low .is) (high .is)))
+      (sym (enclosed-is a z (a ∷ A) (z ∷ B) A B refl refl ∙ ap₂ (λ (C D : List Point). skimChain C ++ inner (skimChain D)) (low .is) (high .is)))
       (two-sides P (a ∷ low .rest) (z ∷ high .rest) closed-sides (low .end, high .end))
 
 pub enclosed-hull : (P A B : List Point) → Sides P A B → IsHull P (enclosed A B)

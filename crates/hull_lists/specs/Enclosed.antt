@@ -16,7 +16,8 @@ use Rattle.integers.specs.Order.{eqZ}
 use Rattle.geometry.specs.declared.Point.{Point}
 use Rattle.geometry.specs.EmBox.{allInEmBox}
 use Rattle.geometry.specs.Points.{points}
-use Rattle.hull.specs.Chains.{chain, inner}
+use Rattle.hull.specs.Chains.{inner}
+use Rattle.hull.specs.Skimmed.{skimChain}
 use Rattle.hull_chains.specs.Spans.{span}
 
 pub record Boxed (l : List ℤ) : Type 0 where
@@ -36,7 +37,7 @@ closed (q ∷ r ∷ l) p = q ∷ closed (r ∷ l) p
 unfoldable pub enclosed : List Point → List Point → List Point
 enclosed [] B = []
 enclosed (a ∷ A) [] = []
-enclosed (a ∷ A) (z ∷ B) = chain (closed (a ∷ A) z) ++ inner (chain (closed (z ∷ B) a))
+enclosed (a ∷ A) (z ∷ B) = skimChain (closed (a ∷ A) z) ++ inner (skimChain (closed (z ∷ B) a))
 
 abbrev pub enclosedBy : ℕ → List ℤ → List ℤ → List Point
 enclosedBy m lows highs = enclosed (span 0 m lows) (span (1008 - m) 1008 highs)

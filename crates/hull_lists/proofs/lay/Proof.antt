@@ -6,7 +6,8 @@ use native.Mathlib.Omega.{arith}
 use lib.ListN.{length}
 use Rattle.geometry.specs.declared.Point.{Point}
 use Rattle.geometry.specs.Points.{pointAt}
-use Rattle.hull.specs.Chains.{chain, inner}
+use Rattle.hull.specs.Chains.{inner}
+use Rattle.hull.specs.Skimmed.{skimChain}
 use Rattle.hull_chains.specs.Spans.{span}
 use Rattle.hull_lists.specs.Enclosed.{closed, enclosed}
 use Rattle.joined_chains.specs.Laid.{laid}
@@ -37,14 +38,14 @@ module _ (c : tie.After-chain2) where
   abbrev upper : List Point
   upper = span (c .chain2 .result) (c .before .before .before .before .before .before .close2 .result) (c .chain2 .last .0)
 
-  lower-is : lower ≡ chain (closed A (pointAt (s .args .highs .now) (1008 - m)))
+  lower-is : lower ≡ skimChain (closed A (pointAt (s .args .highs .now) (1008 - m)))
   lower-is = c .before .before .before .chain .ensures .1
-      ∙ ap chain (c .before .before .before .before .before .before .before .before .before .close .ensures .1 0 (omega (arith, s .pre .0 .0))
+      ∙ ap skimChain (c .before .before .before .before .before .before .before .before .before .close .ensures .1 0 (omega (arith, s .pre .0 .0))
       ∙ ap (closed A) (c .before .before .before .before .before .before .before .before .before .before .before .point-at2 .ensures))
 
-  upper-is : upper ≡ chain (closed B (pointAt (s .args .lows .now) 0))
+  upper-is : upper ≡ skimChain (closed B (pointAt (s .args .lows .now) 0))
   upper-is = c .chain2 .ensures .1
-      ∙ ap chain (c .before .before .before .before .before .before .close2 .ensures .1 (1008 - m) (omega (arith, s .pre .0 .0))
+      ∙ ap skimChain (c .before .before .before .before .before .before .close2 .ensures .1 (1008 - m) (omega (arith, s .pre .0 .0))
       ∙ ap (closed B) (c .before .before .before .before .before .before .before .before .before .before .before .before .before .point-at .ensures))
 
   hull-is : lower ++ inner upper ≡ enclosed A B
