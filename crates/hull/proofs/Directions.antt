@@ -79,7 +79,8 @@ module _ (a q t b c : Point) where
       go (up e k) (right u) v = clash five (lt u ⊞ not-left v ⊞ eq (negsuc 0) e) (search poly depth 40) tt
       go (up e k) (up u m) (right v) = clash five (lt v ⊞ eq (negsuc 0) e ⊞ eq (pos 1) u) (search poly depth 40) tt
       go (up e k) (up u m) (up v n) = nonneg-by five (t .y -ℤ a .y) k
-          (≤-of-< n ⊠ f ⊞ ≤-of-< m ⊠ g ⊞ eq (negℤ (c .y -ℤ b .y) *ℤ (t .y -ℤ a .y)) u ⊞ eq ((c .y -ℤ b .y) *ℤ (q .y -ℤ a .y)) e) (search poly depth 40) tt
+          (≤-of-< n ⊠ f ⊞ ≤-of-< m ⊠ g ⊞ eq (negℤ (c .y -ℤ b .y) *ℤ (t .y -ℤ a .y)) u ⊞ eq ((c .y -ℤ b .y) *ℤ (q .y -ℤ a .y)) e)
+          (search poly depth 40) tt
 
   over-down : Falls a q → Falls q t → Falls b c → cross a q t ≼ pos 0 → pos 0 ≼ cross b c a → pos 0 ≼ cross b c t → pos 0 ≼ cross b c q
   over-down aq qt bc h f g = go (forward t a (before-trans t q a qt aq)) (forward q a aq) (forward t q qt)
@@ -89,7 +90,8 @@ module _ (a q t b c : Point) where
       go (up e k) (right u) v = clash five (lt u ⊞ not-left v ⊞ eq (negsuc 0) e) (search poly depth 40) tt
       go (up e k) (up u m) (right v) = clash five (lt v ⊞ eq (negsuc 0) e ⊞ eq (pos 1) u) (search poly depth 40) tt
       go (up e k) (up u m) (up v n) = nonneg-by five (a .y -ℤ t .y) k
-          (≤-of-< n ⊠ f ⊞ ≤-of-< m ⊠ g ⊞ eq ((c .y -ℤ b .y) *ℤ (a .y -ℤ t .y)) u ⊞ eq (negℤ (c .y -ℤ b .y) *ℤ (a .y -ℤ q .y)) e) (search poly depth 40) tt
+          (≤-of-< n ⊠ f ⊞ ≤-of-< m ⊠ g ⊞ eq ((c .y -ℤ b .y) *ℤ (a .y -ℤ t .y)) u ⊞ eq (negℤ (c .y -ℤ b .y) *ℤ (a .y -ℤ q .y)) e)
+          (search poly depth 40) tt
 
 -- ---- the two directions
 

@@ -38,7 +38,8 @@ pub record Direction (Less : Point → Point → Type 0) : Type 0 where
   -- no left turn from p over b to c, and q before c and on the left of the way from b to c
   pub behind : (p b c q : Point) → Less p c → Less b c → Less q c → cross p b c ≼ pos 0 → pos 0 ≼ cross b c q → pos 0 ≼ cross p c q
   -- q between a and t, on the way from a to t or on the left of it: where a and t are on the left of the way from b to c, so is q
-  pub over : (a q t b c : Point) → Less a q → Less q t → Less b c → cross a q t ≼ pos 0 → pos 0 ≼ cross b c a → pos 0 ≼ cross b c t → pos 0 ≼ cross b c q
+  pub over : (a q t b c : Point) → Less a q → Less q t → Less b c → cross a q t ≼ pos 0 → pos 0 ≼ cross b c a → pos 0 ≼ cross b c t
+      → pos 0 ≼ cross b c q
 
 abbrev pub Sorted : (Point → Point → Type 0) → List Point → Type 0
 Sorted Less [] = Unit {0}

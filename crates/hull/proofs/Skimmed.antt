@@ -3,12 +3,11 @@
 --   skim-keep, skim-drop  : `skimmed`, by the outcome of its test
 --   Covered a S q         == q is on the left of the way from a to a later point of S, or on it
 --   Skim a Q, skim        == what `skimmed a Q` is: points of Q in their order, of which each other one is covered
---   skim-last             : the last point is always kept
 --   skim-chained          : `skimChain` of a sorted list is a chain for it
 use mathlib.Core.Path.{_≡_, refl, sym, _∙_, ap, subst}
 use mathlib.Core.Logic.{_⊎_, inl, inr}
 use mathlib.Core.Bool.{Bool, true, false, true≢false}
-use mathlib.Core.List.{List, [], _∷_, List·Memᴰ·head, List·Memᴰ·tail, List·Memᴰ·cases-cons, List·Memᴰ·not-nil}
+use mathlib.Core.List.{List, [], _∷_, List·Memᴰ·head, List·Memᴰ·tail}
 use lib.IntN.{pos}
 use lib.Signed.{ltZ}
 use Rattle.integers.specs.Order.{_≼_}
@@ -87,7 +86,8 @@ module _ {Less : Point → Point → Type 0} (d : Direction Less) (a : Point) wh
   skim [] s = rw (skim-none a) (record { members = λ q i. i; sorted = tt; covered = λ q i. inl i; end = λ x. refl })
   skim (p ∷ Q) s = go (isNeeded a p (chain (skimmed a Q))) refl (skimmed a Q) refl (skim Q (s .1))
     where
-      go : (b : Bool) → isNeeded a p (chain (skimmed a Q)) ≡ b → (S : List Point) → skimmed a Q ≡ S → Skim Q (skimmed a Q) → Skim (p ∷ Q) (skimmed a (p ∷ Q))
+      go : (b : Bool) → isNeeded a p (chain (skimmed a Q)) ≡ b → (S : List Point) → skimmed a Q ≡ S → Skim Q (skimmed a Q)
+          → Skim (p ∷ Q) (skimmed a (p ∷ Q))
       go true e S is k = subst (Skim (p ∷ Q)) (sym (skim-keep a p Q e)) (kept p Q (skimmed a Q) s k)
       go false e [] is k =
           absurd (true≢false (sym (ap (λ (R : List Point). isNeeded a p (chain R)) is ∙ ap (isNeeded a p) chain-none ∙ needed-first a p) ∙ e))
