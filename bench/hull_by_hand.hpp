@@ -29,6 +29,11 @@ struct Chain {
         while (size >= first + 2 && !turns_left(points[size - 2], points[size - 1], p)) size--;
         points[size++] = p;
     }
+
+    // The same on the way to the point `end`: a point that is not on the right of the way there cannot be a corner.
+    void add_before(Point end, Point p) {
+        if (turns_left(points[size - 1], p, end)) add(p);
+    }
 };
 
 inline Reduced put_in_front(const Chain& chain, Point* list, size_t n) {
@@ -87,13 +92,17 @@ inline Reduced hull_by_columns(Point* list, size_t n, std::vector<Point>& scratc
     int16_t at[Columns::WIDTH];
     size_t m = columns.gather(at);
     scratch.resize(std::max(scratch.size(), 2 * m + 1));
-    Chain chain{scratch.data(), 0, 0};
-    for (size_t i = 0; i < m; i++) chain.add({at[i], columns.low[at[i]]});
-    chain.first = chain.size - 1;
     int16_t left = at[0], right = at[m - 1];
+    Point bottom{right, columns.low[right]}, top{left, columns.high[left]};
+    Chain chain{scratch.data(), 0, 0};
+    chain.add({left, columns.low[left]});
+    for (size_t i = 1; i + 1 < m; i++) chain.add_before(bottom, {at[i], columns.low[at[i]]});
+    if (m > 1) chain.add(bottom);
+    chain.first = chain.size - 1;
     if (columns.high[right] != columns.low[right]) chain.add({right, columns.high[right]});
-    for (size_t i = m - 1; i-- > 0;) chain.add({at[i], columns.high[at[i]]});
+    for (size_t i = m - 1; i-- > 1;) chain.add_before(top, {at[i], columns.high[at[i]]});
     // Back at the point that it began with, where that column has only one.
+    if (m > 1) chain.add(top);
     if (m > 1 && columns.high[left] == columns.low[left]) chain.size--;
     return put_in_front(chain, list, n);
 }

@@ -4,6 +4,7 @@
 --   Between, between : at a corner of a polygon, the corners before and behind it
 --   at-first, at-last : the ends of a row
 --   extreme        : no corner is a mean of other points
+--   not-in-row     : no three corners are in a row
 use mathlib.Core.Path.{_≡_, refl, sym, _∙_, ap, subst}
 use mathlib.Core.Logic.{_⊎_, inl, inr}
 use mathlib.Core.List.{List, [], _∷_, _++_, append-assoc}
@@ -20,7 +21,9 @@ use Rattle.point_lists.proofs.Sets.{point-path, none-of, also}
 use Rattle.disks.proofs.Base.{positive-not-zero}
 use Rattle.hull.specs.Hull.{cross, LeftTurns, OnLeft, UpTo, round, Polygon, Row, IsHull}
 use Rattle.hull.specs.Means.{Mean}
-use Rattle.hull.proofs.Turns.{Forward, right, up, forward, Parallel, parallel}
+use Rattle.hull.proofs.Turns.{Forward, right, up, forward, Parallel, parallel, turn-on, turn-swap, Mid, Balance, balance}
+use Rattle.hull.proofs.Turns.{Arranged, first-two, last-two, outer-two, first-mid, second-mid, third-mid, arranged}
+use Rattle.hull.proofs.Means.{mean-of-two}
 
 -- ---- means
 
@@ -214,3 +217,31 @@ by-size (a ∷ b ∷ c ∷ l) h p i K others m = polygon-extreme (at-corner a b 
 pub extreme : {P : List Point} (H : List Point) → IsHull P H → (p : Point) → In p H
     → (K : List Point) → ((q : Point) → In q K → In q P) → (In p K → ⊥) → Mean K p → ⊥
 extreme H h p i K f n m = by-size H h p i K (record { members = f; not-there = n }) m
+
+-- ---- no three corners in a row
+
+-- of three points in a row the middle one is a mean of the others
+middle-mean : (x y z : Point) → Balance x y z → Mean (x ∷ z ∷ []) y
+middle-mean x y z b = mean-of-two x z y (b .l) (b .k) (List·Memᴰ·head refl) (List·Memᴰ·tail (List·Memᴰ·head refl)) (≤-of-< (b .l-some))
+    (≤-of-< (b .k-some))
+    (positive (b .k ∷ b .l ∷ []) (lt (b .k-some) ⊞ lt (b .l-some) ⊞ nn 1) (search poly depth 30) tt)
+    (linear (b .k ∷ b .l ∷ x .x ∷ y .x ∷ z .x ∷ []) (eqn (negsuc 0) (b .x-is)) (search poly depth 30) tt)
+    (linear (b .k ∷ b .l ∷ x .y ∷ y .y ∷ z .y ∷ []) (eqn (negsuc 0) (b .y-is)) (search poly depth 30) tt)
+
+module _ {P : List Point} (H : List Point) (h : IsHull P H) where
+  not-middle : (x y z : Point) → In x H → In y H → In z H → (y ≡ x → ⊥) → (y ≡ z → ⊥) → Mid x y z → cross x y z ≡ pos 0 → ⊥
+  not-middle x y z i j k n m d e = extreme H h y j (x ∷ z ∷ [])
+      (also (λ q. In q P) (h .members x i) (also (λ q. In q P) (h .members z k) (none-of (λ q. In q P))))
+      (λ t. also (λ q. y ≡ q → ⊥) n (also (λ q. y ≡ q → ⊥) m (none-of (λ q. y ≡ q → ⊥))) y t refl)
+      (middle-mean x y z (balance x y z d e))
+
+  pub not-in-row : (a b c : Point) → In a H → In b H → In c H → (a ≡ b → ⊥) → (b ≡ c → ⊥) → (a ≡ c → ⊥) → cross a b c ≡ pos 0 → ⊥
+  not-in-row a b c i j k ab bc ac e = go (arranged a b c)
+    where
+      go : Arranged a b c → ⊥
+      go (first-two s) = ab s
+      go (last-two s) = bc s
+      go (outer-two s) = ac s
+      go (first-mid d) = not-middle b a c j i k ab ac d (turn-swap b a c ∙ ap negℤ (turn-on b c a ∙ turn-on c a b ∙ e))
+      go (second-mid d) = not-middle a b c i j k (λ s. ab (sym s)) bc d e
+      go (third-mid d) = not-middle a c b i k j (λ s. ac (sym s)) (λ s. bc (sym s)) d (turn-swap a c b ∙ ap negℤ e)

@@ -1,6 +1,7 @@
 -- Every point of a list is a weighted mean of three corners of its hull.
 --
 --   fan            : a point in the fan triangle O g h is a mean of the three
+--   mean-of-two    : a weighted mean of two points
 --   mean           : every point of P is a mean of corners of the hull of P
 use mathlib.Core.Path.{_≡_, refl, sym, subst}
 use mathlib.Core.Logic.{_⊎_, inl, inr}
@@ -85,9 +86,9 @@ in-polygon {P} a b c l h p i = go (≤-or-< (cross a c p) (pos 0))
 
 -- ---- in a row
 
-between : {H : List Point} (a b p : Point) (α β : ℤ) → In a H → In b H → pos 0 ≼ α → pos 0 ≼ β → pos 0 ≺ α +ℤ β
+pub mean-of-two : {H : List Point} (a b p : Point) (α β : ℤ) → In a H → In b H → pos 0 ≼ α → pos 0 ≼ β → pos 0 ≺ α +ℤ β
     → (α +ℤ β) *ℤ p .x ≡ α *ℤ a .x +ℤ β *ℤ b .x → (α +ℤ β) *ℤ p .y ≡ α *ℤ a .y +ℤ β *ℤ b .y → Mean H p
-between a b p α β ia ib hα hβ w ex ey = record {
+mean-of-two a b p α β ia ib hα hβ w ex ey = record {
   a = a;
   b = b;
   c = b;
@@ -106,21 +107,21 @@ between a b p α β ia ib hα hβ w ex ey = record {
 }
 
 pub itself : {H : List Point} (p : Point) → In p H → Mean H p
-itself p i = between p p p (pos 1) (pos 0) i i (nn 1) (nn 0) (positive [] (nn 0) (search poly depth 30) tt)
+itself p i = mean-of-two p p p (pos 1) (pos 0) i i (nn 1) (nn 0) (positive [] (nn 0) (search poly depth 30) tt)
     (ring (p .x ∷ []) (search poly depth 30) tt) (ring (p .y ∷ []) (search poly depth 30) tt)
 
--- p strictly between a and b, in a row with them
+-- p strictly mean-of-two a and b, in a row with them
 in-between : {H : List Point} (a b p : Point) → In a H → In b H → T (before a b) → T (before a p) → T (before p b) → cross a b p ≡ pos 0 → Mean H p
 in-between {H} a b p ia ib ab ap pb e = go (forward a b ab) (forward a p ap) (forward p b pb)
   where
     go : Forward (b .x -ℤ a .x) (b .y -ℤ a .y) → Forward (p .x -ℤ a .x) (p .y -ℤ a .y) → Forward (b .x -ℤ p .x) (b .y -ℤ p .y) → Mean H p
-    go (right h) f g = between a b p (b .x -ℤ p .x) (p .x -ℤ a .x) ia ib (not-left g) (not-left f)
+    go (right h) f g = mean-of-two a b p (b .x -ℤ p .x) (p .x -ℤ a .x) ia ib (not-left g) (not-left f)
         (positive (a .x ∷ b .x ∷ p .x ∷ []) (lt h) (search poly depth 30) tt)
         (ring (a .x ∷ b .x ∷ p .x ∷ []) (search poly depth 30) tt)
         (linear (a .x ∷ b .x ∷ p .x ∷ a .y ∷ b .y ∷ p .y ∷ []) (eqn (pos 1) e) (search poly depth 30) tt)
     go (up d h) (right f) g = clash (a .x ∷ b .x ∷ p .x ∷ []) (lt f ⊞ not-left g ⊞ eq (negsuc 0) d) (search poly depth 30) tt
     go (up d h) (up c f) (right g) = clash (a .x ∷ b .x ∷ p .x ∷ []) (lt g ⊞ eq (negsuc 0) d ⊞ eq (pos 1) c) (search poly depth 30) tt
-    go (up d h) (up c f) (up k g) = between a b p (b .y -ℤ p .y) (p .y -ℤ a .y) ia ib (≤-of-< g) (≤-of-< f)
+    go (up d h) (up c f) (up k g) = mean-of-two a b p (b .y -ℤ p .y) (p .y -ℤ a .y) ia ib (≤-of-< g) (≤-of-< f)
         (positive (a .y ∷ b .y ∷ p .y ∷ []) (lt h) (search poly depth 30) tt)
         (linear (a .x ∷ b .x ∷ p .x ∷ a .y ∷ b .y ∷ p .y ∷ []) (eqn (negsuc 0) e) (search poly depth 30) tt)
         (ring (a .y ∷ b .y ∷ p .y ∷ []) (search poly depth 30) tt)

@@ -30,7 +30,7 @@ use Rattle.hull.specs.Chains.{hullOf}
 use Rattle.hull.proofs.HullOf.{hull-of, hullOf-only}
 use Rattle.hull.proofs.Different.{hull-length}
 use Rattle.hull.proofs.Means.{mean}
-use Rattle.hull.proofs.Extreme.{extreme}
+use Rattle.hull.proofs.Extreme.{extreme, not-in-row}
 use Rattle.hull.proofs.SameDisk.{disk-of-hull, support-of-hull}
 use Rattle.joined_chains.specs.Laid.{laid}
 use Rattle.hull_points.specs.Reducing.{reduceOf, listAfter}
@@ -156,6 +156,7 @@ pub hull-points : HullPoints
 hull-points = record {
   one-hull = λ P. (hullOf P, (hull-of P, λ K k. hullOf-only P K k));
   reduced = reduced;
+  no-row = λ P H h. not-in-row H h;
   row = λ P a b i j r. record { members = also (λ p. In p P) i (also (λ p. In p P) j (none-of (λ p. In p P))); corners = r };
   lone = λ P a i f. record { members = also (λ p. In p P) i (none-of (λ p. In p P)); corners = f };
   corners = λ P H h p. ((λ i. (h .members p i, extreme H h p i)), sticking-in h p);

@@ -22,7 +22,7 @@ use Rattle.geometry.specs.Points.{points, flat}
 use Rattle.point_lists.specs.Sets.{In}
 use Rattle.disks.specs.Procedure.{testsOf}
 use Rattle.engine.specs.Engine.{Enclosure, encloseOf}
-use Rattle.hull.specs.Hull.{Row, IsHull}
+use Rattle.hull.specs.Hull.{cross, Row, IsHull}
 use Rattle.hull.specs.Means.{Mean}
 use Rattle.hull_points.specs.Reducing.{reduceOf, listAfter}
 use Rattle.rules.specs.Row.{AllKept}
@@ -56,6 +56,10 @@ pub record HullPoints : Type 0 where
   pub reduced :
       (l : List ℤ) → AllKept (engineRow l) → (H : List Point) → IsHull (points l) H
       → (reduceOf l ≡ given (length H)) × (2 * length H ≤ length l) × (listAfter l ≡ flat H ++ replicate (length l - 2 * length H) (pos 0))
+  -- "no three in a row", and not only of three that follow one another
+  pub no-row :
+      (P H : List Point) → IsHull P H → (a b c : Point) → In a H → In b H → In c H
+      → (a ≡ b → ⊥) → (b ≡ c → ⊥) → (a ≡ c → ⊥) → cross a b c ≡ pos 0 → ⊥
   -- "A row keeps its two ends, a lone corner itself."
   pub row : (P : List Point) (a b : Point) → In a P → In b P → Row P a b → IsHull P (a ∷ b ∷ [])
   pub lone : (P : List Point) (a : Point) → In a P → ((p : Point) → In p P → p ≡ a) → IsHull P (a ∷ [])
