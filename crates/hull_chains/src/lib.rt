@@ -1,5 +1,6 @@
 // Chains of points, each next turning strictly left, made in place in a list of numbers.
 use geometry::Point;
+use geometry::minus;
 ghost use mathlib.Core.Path.{_≡_};
 ghost use mathlib.Core.List.{_∷_};
 ghost use Prim.Native.Nat.{ℕ, _+_, _*_, _≤_, _<_};
@@ -16,9 +17,7 @@ ghost use Rattle.hull_chains.specs.Spans.{span};
 fn turns_left(a: Point, b: Point, c: Point) -> bool
     ensures { λ r. ⌜ r ≡ ltZ (pos 0) (cross a b c) ⌝ }
 {
-    let ahead = geometry::minus(b.x, a.x) * geometry::minus(c.y, a.y);
-    let back = geometry::minus(b.y, a.y) * geometry::minus(c.x, a.x);
-    0 < ahead - back
+    0 < minus(b.x, a.x) * minus(c.y, a.y) - minus(b.y, a.y) * minus(c.x, a.x)
 }
 
 // Where a chain with p in front goes on: the points m to n of the list are a chain, and those of them that make no strict left turn

@@ -1,6 +1,7 @@
 // The tests of one to three points against a disk: on its boundary, the ends of a diameter, a triangle with acute angles.
 use geometry::Disk;
 use geometry::Point;
+use geometry::minus;
 ghost use mathlib.Core.Path.{_≡_};
 ghost use lib.Dec.{T};
 ghost use lib.IntN.{pos, _-ℤ_, _*ℤ_};
@@ -45,9 +46,7 @@ pub fn is_opposite(disk: Disk, p: Point, q: Point) -> bool
 fn is_acute_at(a: Point, b: Point, c: Point) -> bool
     ensures { λ r. ⌜ r ≡ acuteAt a b c ⌝ }
 {
-    0
-        < geometry::minus(b.x, a.x) * geometry::minus(c.x, a.x)
-            + geometry::minus(b.y, a.y) * geometry::minus(c.y, a.y)
+    0 < minus(b.x, a.x) * minus(c.x, a.x) + minus(b.y, a.y) * minus(c.y, a.y)
 }
 
 // Whether the triangle p q r has acute angles only.

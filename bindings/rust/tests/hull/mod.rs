@@ -1,11 +1,11 @@
-//! Reduction to the hull, tried by its definition on drawn lists and by hand: nothing here works out a hull.
+//! Reduction to the hull, tried by its definition, against the reference's corners and by hand: nothing here works out a hull.
 
 use super::{compare_list, ours};
 use reference::engine::{flat, points_of};
 use reference::geometry::{gcd, Point};
 use reference::limits::{FOOT, LEFT};
 use reference::random::Random;
-use reference::{damage, letters, lists};
+use reference::{damage, hull, letters, lists};
 use std::collections::BTreeSet;
 use volkhidar::{
     preview, reduce_to_hull, smallest_disk, whole_radius, write_record, Disk, Refusal, SupportSet, MOST_POINTS, RECORD_LENGTH,
@@ -67,6 +67,7 @@ pub fn compare_hull(list: &[i16], name: &str) -> Result<usize, u8> {
     assert!(count <= list.len() / 2, "{count} kept, more than there were: {name}");
     let (kept, rest) = reduced.split_at(2 * count);
     assert_is_hull(&points_of(kept), &points_of(list), name);
+    assert_eq!(points_of(kept), hull::corners(&points_of(list)), "the reference's corners: {name}");
     assert!(rest.iter().all(|&number| number == 0), "not all zeros behind: {name}");
     assert_eq!(ours(answers_of(kept)), expected, "answers of the kept: {name}");
     compare_list(kept, name);

@@ -42,8 +42,8 @@ minus-requires c κs = search needs
 minus-requires-2 : tie.Need-minus-requires-2
 minus-requires-2 c κs = search needs
 
-mul-ahead : tie.Need-mul-ahead
-mul-ahead c = fits (first c) tt
+mul-result : tie.Need-mul-result
+mul-result c = fits (first c) tt
 
 minus-requires-3 : tie.Need-minus-requires-3
 minus-requires-3 c κs = search needs
@@ -51,8 +51,8 @@ minus-requires-3 c κs = search needs
 minus-requires-4 : tie.Need-minus-requires-4
 minus-requires-4 c κs = search needs
 
-mul-back : tie.Need-mul-back
-mul-back c = fits (second c) tt
+mul-result-2 : tie.Need-mul-result-2
+mul-result-2 c = fits (second c) tt
 
 sub-result : tie.Need-sub-result
 sub-result c = fits (product c) tt
@@ -66,9 +66,9 @@ turns-left-spec =
     (tie.spec
     minus-requires
     minus-requires-2
-    mul-ahead
+    mul-result
     minus-requires-3
     minus-requires-4
-    mul-back
+    mul-result-2
     sub-result
     returns)
