@@ -9,7 +9,7 @@ use Rattle.geometry.specs.Points.{points, firstPoints}
 use Rattle.hull.specs.Chains.{inner}
 use Rattle.hull_chains.specs.Spans.{span}
 use Rattle.hull_chains.proofs.Spanning.{span-length}
-use Rattle.joined_chains.proofs.Gathering.{inner-span, laid-from}
+use Rattle.joined_chains.proofs.Joining.{inner-span, laid-from}
 use Rattle.joined_chains.proofs.join.Statement.{statement}
 use borrow.Author.Needs.{needs}
 use Rattle.joined_chains.proofs.join.Tie as tie
