@@ -73,7 +73,8 @@ module _ (d : Disk) (a : WithinLimits em d) where
   e-high = pos-le (a .e-most)
 
   -- lo and hi are the two sides of the em box along x, or along y
-  centre-small : (lo hi c : ℤ) → negℤ (pos (largest em)) ≼ lo → hi ≼ pos (largest em) → lo *ℤ pos (d .e) ≼ c → c ≼ hi *ℤ pos (d .e) → SmallPair (d .e) c
+  centre-small : (lo hi c : ℤ) → negℤ (pos (largest em)) ≼ lo → hi ≼ pos (largest em) → lo *ℤ pos (d .e) ≼ c → c ≼ hi *ℤ pos (d .e)
+      → SmallPair (d .e) c
   centre-small lo hi c l h low high =
       let m = pos (largest em) in
       let n = pos (em .scale) in
@@ -93,7 +94,8 @@ module _ (d : Disk) (a : WithinLimits em d) where
   pub s-small : d .s ≤ em .square * (em .scale * em .scale)
   s-small = le-trans (a .s-most) (mul-le-mul (le-refl (em .square)) (mul-le-mul (a .e-most) (a .e-most)))
 
-  near : (lo v c : ℤ) → lo ≼ v → v ≼ lo +ℤ side em → lo *ℤ pos (d .e) ≼ c → c ≼ (lo +ℤ side em) *ℤ pos (d .e) → natAbs (v *ℤ pos (d .e) -ℤ c) ≤ furthest
+  near : (lo v c : ℤ) → lo ≼ v → v ≼ lo +ℤ side em → lo *ℤ pos (d .e) ≼ c → c ≼ (lo +ℤ side em) *ℤ pos (d .e)
+      → natAbs (v *ℤ pos (d .e) -ℤ c) ≤ furthest
   near lo v c v-low v-high c-low c-high =
       let e = pos (d .e) in
       let n = pos (em .scale) in
