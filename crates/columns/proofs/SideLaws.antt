@@ -28,6 +28,7 @@ use Rattle.point_lists.specs.Rising.{Rising}
 use Rattle.point_lists.proofs.Sets.{also, none-of}
 use Rattle.point_lists.proofs.Order.{by-x, is-before}
 use Rattle.hull.proofs.HullOf.{rising-sorted, reverse-falls, reverse-to, reverse-from}
+use Rattle.hull.proofs.SameDisk.{not-empty}
 use Rattle.hull.proofs.TwoSides.{Below, Sides}
 use Rattle.columns.specs.Columns.{at, Column, none, some, Columns, columnPoint, side}
 use Rattle.columns.proofs.ColumnLaws.{box-x, box-column, column-empty, column-one}
@@ -173,10 +174,6 @@ module _ {P : List Point} {low high : List ℤ} (c : Columns P low high) (boxed 
   pub sides-some : 1 ≤ length P → 1 ≤ length A
   sides-some h = go P h (λ p i. sides-are .has-low p i)
     where
-      some-point : {l : List Point} {q : Point} → In q l → 1 ≤ length l
-      some-point {l = []} i = absurd (List·Memᴰ·not-nil i)
-      some-point {l = a ∷ l} i = omega arith
-
       go : (R : List Point) → 1 ≤ length R → ((p : Point) → In p R → Below A p) → 1 ≤ length A
       go [] k f = absurd (omega arith)
-      go (p ∷ R) k f = some-point (f p (List·Memᴰ·head refl) .low-in)
+      go (p ∷ R) k f = not-empty A (f p (List·Memᴰ·head refl) .low-in)

@@ -15,11 +15,11 @@ use mathlib.Core.List.{List, [], _∷_, List·Memᴰ·head, List·Memᴰ·tail, 
 use Prim.Native.Nat.{ℕ, suc, _≤_, _<_}
 use native.Mathlib.Omega.{arith}
 use lib.Dec.{T}
-use lib.IntN.{ℤ, pos, _*ℤ_}
+use lib.IntN.{pos, _*ℤ_}
 use lib.ListN.{length}
-use Rattle.integers.specs.Order.{_≼_, _≺_}
-use Rattle.integers.proofs.Ring.{poly, linear, eqn}
-use Rattle.integers.proofs.Order.{nonneg, le, nn, positive}
+use Rattle.integers.specs.Order.{_≼_}
+use Rattle.integers.proofs.Laws.{one-*}
+use Rattle.integers.proofs.Order.{le, nn}
 use Rattle.geometry.specs.declared.Point.{Point}
 use Rattle.geometry.specs.declared.Disk.{Disk}
 use Rattle.geometry.specs.Plane.{distance, holds, onBoundary}
@@ -32,6 +32,7 @@ use Rattle.disks.specs.Smallest.{RationalDisk, reach, Fits, Smallest}
 use Rattle.disks.specs.Procedure.{diskOf}
 use Rattle.disks.specs.Support.{firstSupport}
 use Rattle.disks.specs.FirstSupport.{IsSupport, Earlier, fewer, lexical, IsFirstSupport}
+use Rattle.disks.proofs.Base.{positive-one}
 use Rattle.disks.proofs.Minimal.{StronglyMinimal, strong-same}
 use Rattle.disks.proofs.Lifted.{Lifted}
 use Rattle.disks.proofs.LiftedProcedure.{liftedMtf}
@@ -66,30 +67,18 @@ fits-all {P} {H} {c} s f = record {
 pub fits-fewer : {P H : List Point} {c : RationalDisk} → Spans P H → Fits c P [] → Fits c H []
 fits-fewer s f = record { holds-all = λ p i. f .holds-all p (s .members p i); through-all = f .through-all }
 
-once : (t r : ℤ) → t ≼ r → pos 1 *ℤ t ≼ r
-once t r h = nonneg (t ∷ r ∷ []) (le h) (search poly depth 30) tt
-
-at-once : (t r : ℤ) → pos 1 *ℤ t ≼ r → t ≼ r
-at-once t r h = nonneg (t ∷ r ∷ []) (le h) (search poly depth 30) tt
-
-once-equal : (t r : ℤ) → t ≡ r → pos 1 *ℤ t ≡ r
-once-equal t r e = linear (t ∷ r ∷ []) (eqn (pos 1) e) (search poly depth 30) tt
-
-one-positive : pos 0 ≺ pos 1
-one-positive = positive [] (nn 0) (search poly depth 30) tt
-
 module _ {H : List Point} (d : Disk) (held : (q : Point) → In q H → T (holds d q)) where
   held-once : (q : Point) → In q H → pos 1 *ℤ distance d q ≼ pos (d .s)
   unfolding holds
-  held-once q i = once (distance d q) (pos (d .s)) (record { le = held q i })
+  held-once q i = rw (one-* (distance d q)) (record { le = held q i })
 
   pub held-inside : (p : Point) → Mean H p → T (holds d p)
   unfolding holds
-  held-inside p s = at-once (distance d p) (pos (d .s)) (inside (d .x) (d .y) (pos (d .e)) (pos 1) (pos (d .s)) held-once s (nn 1)) .le
+  held-inside p s = (rw (one-* (distance d p)) at (inside (d .x) (d .y) (pos (d .e)) (pos 1) (pos (d .s)) held-once s (nn 1))) .le
 
   pub boundary-corner : (p : Point) → Mean H p → 1 ≤ d .e → onBoundary d p → In p H
-  boundary-corner p s some on = a-corner (d .x) (d .y) (pos (d .e)) (pos 1) (pos (d .s)) held-once s one-positive (some-positive some)
-      (once-equal (distance d p) (pos (d .s)) on)
+  boundary-corner p s some on = a-corner (d .x) (d .y) (pos (d .e)) (pos 1) (pos (d .s)) held-once s positive-one (some-positive some)
+      (one-* (distance d p) ∙ on)
 
 pub smallest-to : {P H : List Point} {d : Disk} → Spans P H → Smallest P d → Smallest H d
 smallest-to {P} {H} {d} s m = record {
@@ -119,7 +108,7 @@ pub record BoundarySet (P R : List Point) (d : Disk) : Type 0 where
   pub inside : (p : Point) → In p set → In p R
   pub on : (p : Point) → In p set → onBoundary d p
 
-not-empty : (S : List Point) {x : Point} → In x S → 1 ≤ length S
+pub not-empty : (S : List Point) {x : Point} → In x S → 1 ≤ length S
 not-empty [] i = absurd (List·Memᴰ·not-nil i)
 not-empty (a ∷ S) i = omega arith
 
