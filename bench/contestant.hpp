@@ -44,6 +44,16 @@ class Contestant {
     virtual Found found(size_t i) const = 0;
 };
 
+// The lists as points P of a contestant's own, whose coordinates are numbers of the type C.
+template <typename C, typename P>
+void copy_as(const std::vector<List>& from, std::vector<std::vector<P>>& lists) {
+    lists.clear();
+    for (const List& list : from) {
+        lists.emplace_back();
+        for (Point p : list) lists.back().push_back(P{C(p.x), C(p.y)});
+    }
+}
+
 struct Entry {
     int rank;
     std::string name;

@@ -14,11 +14,7 @@ using MinSphere = CGAL::Min_sphere_of_spheres_d<Traits>;
 class CgalMinSphere : public Contestant {
   public:
     void prepare(const std::vector<List>& from) override {
-        lists.clear();
-        for (const List& list : from) {
-            lists.emplace_back();
-            for (Point p : list) lists.back().emplace_back(double(p.x), double(p.y));
-        }
+        copy_as<double>(from, lists);
         drawn.resize(lists.size());
     }
     void run() override {

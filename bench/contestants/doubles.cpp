@@ -63,11 +63,7 @@ Drawn smallest(std::vector<P>& points, std::mt19937& random) {
 class Doubles : public Contestant {
   public:
     void prepare(const std::vector<List>& from) override {
-        lists.clear();
-        for (const List& list : from) {
-            lists.emplace_back();
-            for (Point p : list) lists.back().push_back({double(p.x), double(p.y)});
-        }
+        copy_as<double>(from, lists);
         drawn.resize(lists.size());
         random.seed(1);
     }

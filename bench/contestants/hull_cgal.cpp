@@ -14,11 +14,7 @@ using Kernel = CGAL::Exact_predicates_inexact_constructions_kernel;
 class CgalHull : public Contestant {
   public:
     void prepare(const std::vector<List>& from) override {
-        lists.clear();
-        for (const List& list : from) {
-            lists.emplace_back();
-            for (Point p : list) lists.back().emplace_back(double(p.x), double(p.y));
-        }
+        copy_as<double>(from, lists);
         hulls.resize(lists.size());
         for (auto& hull : hulls) hull.clear();
     }

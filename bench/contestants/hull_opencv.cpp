@@ -10,11 +10,7 @@ using namespace bench;
 class OpenCvHull : public Contestant {
   public:
     void prepare(const std::vector<List>& from) override {
-        lists.clear();
-        for (const List& list : from) {
-            lists.emplace_back();
-            for (Point p : list) lists.back().emplace_back(p.x, p.y);
-        }
+        copy_as<int>(from, lists);
         hulls.resize(lists.size());
         for (auto& hull : hulls) hull.clear();
     }

@@ -9,11 +9,7 @@ using namespace bench;
 class OpenCv : public Contestant {
   public:
     void prepare(const std::vector<List>& from) override {
-        lists.clear();
-        for (const List& list : from) {
-            lists.emplace_back();
-            for (Point p : list) lists.back().emplace_back(float(p.x), float(p.y));
-        }
+        copy_as<float>(from, lists);
         drawn.resize(lists.size());
     }
     void run() override {
