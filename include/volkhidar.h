@@ -33,6 +33,15 @@
  *                 12   a chosen point that is not in the list
  *                 13   no disk holds the list with the chosen points on its boundary
  *                 14   a tolerance t outside 0 to 50
+ *                 15   points that do not belong to their disk
+ *
+ *   Belonging   The points of a support set belong to a disk if their smallest disk is this disk, and with any one of them left out it is
+ *               another, or there is none because no point is left. So one point belongs to the disk of radius 0 that it is itself; two
+ *               belong to the disk of which they are the ends of a diameter; three belong to the disk that has them all on its
+ *               boundary if their triangle is acute (a right angle's point is one too many); and to no other disk.
+ *               volkhidar_whole_radius, volkhidar_preview, volkhidar_write_record and volkhidar_read_record test this, after all
+ *               else, and refuse with 15. So a disk and set that one of them takes, and a record that is read, are what
+ *               volkhidar_smallest_disk gives for the named points alone; and whatever that gives, they take.
  *
  * docs/FORMATS.md describes descriptions, sheets and records byte by byte.
  */
@@ -72,7 +81,7 @@ typedef struct {
 /*
  * One to three points whose own smallest disk is that of the whole list. A set that a call returns is in rising order (x, then y), and
  * its last point is repeated to make three. In a set that is passed to a call the points behind `size` are not looked at; a size
- * other than 1, 2 or 3 is refused with 7.
+ * other than 1, 2 or 3 is refused with 7, and points that do not belong to the disk beside them with 15.
  */
 typedef struct {
     uint64_t size;
@@ -170,7 +179,8 @@ volkhidar_disk_answer volkhidar_smallest_disk(int16_t *list, size_t list_length)
  * The smallest disk that holds the points of `list`, x and y by turns, and has the chosen points `first` and `second` on its boundary:
  * smallest of all disks with a fractional centre and squared radius that do, and no other is as small. One point that is chosen alone is
  * passed twice. The list is only read. Only the disk is returned: its centre may be outside the em box and s above 500,000 e^2, and it
- * then has no whole radius, preview or record (7).
+ * then has no whole radius, preview or record (7). Within these limits it has them with points that belong to it, which the chosen
+ * points need not do (15).
  * Refusals, in this order: 9 for an odd length, 5, 4, 3; 12 for a chosen point that is not in the list, one outside the em box too; 13
  * exactly where there is no such disk.
  */
@@ -180,7 +190,9 @@ volkhidar_through_answer volkhidar_smallest_disk_through(const int16_t *list, si
  * The smallest disk that holds every traced point of `list`, wherever each may really be. The list goes by threes, x, y and t: the point
  * may be anywhere in the square from (x - t, y - t) to (x + t, y + t), at fractional places too, and t is its tolerance, 0 to 50
  * units. The disk holds all of these squares: smallest of all disks with a fractional centre and squared radius that do, and no other
- * is as small. With every t 0 it is the disk of volkhidar_smallest_disk. The list is only read. Only the disk is returned.
+ * is as small. With every t 0 it is the disk of volkhidar_smallest_disk. The list is only read. Only the disk is returned. Its whole
+ * radius, preview and record take points that belong to it (15): volkhidar_smallest_disk of the four corners of every square, 4,096
+ * points at most, gives the same disk with such a set.
  * Refusals, in this order: 9 for a length that is not a multiple of three, 5, 4 for more than 1,024 traced points; then the first
  * faulty traced point, by 14, then 3 where its square leaves the em box.
  */
@@ -200,27 +212,27 @@ volkhidar_hull_answer volkhidar_reduce_to_hull(int16_t *list, size_t list_length
  * The radius to cut with, a whole number: the least R with R^2 e^2 greater than s. The cut, the circle of radius R about the disk's
  * centre, keeps off every point that the disk holds: each lies inside it and none on it. So R is above the disk's own radius by at most
  * 1, and by 1 exactly where that is a whole number itself; a single point has R 1.
- * Refusal: 7 for a disk and support set that a valid record could not hold.
+ * Refusals, in this order: 7 for a disk and support set that a valid record could not hold; 15 for points that do not belong to the disk.
  */
 volkhidar_radius_answer volkhidar_whole_radius(volkhidar_disk disk, volkhidar_support support);
 
 /*
  * The centre as x/e and y/e, each divided once and rounded once, and the whole radius.
- * Refusal: 7 for a disk and support set that a valid record could not hold.
+ * Refusals, in this order: 7 for a disk and support set that a valid record could not hold; 15 for points that do not belong to the disk.
  */
 volkhidar_preview_answer volkhidar_preview(volkhidar_disk disk, volkhidar_support support);
 
 /*
  * Writes the record of a disk and its support set into the first 45 bytes of `buffer`; the rest stays. Returns 0 or the refusal.
  * The record has three points, the last repeated where there are fewer, and in its last byte how many are meant: 1, 2 or 3.
- * Refusals, in this order: 8 for a buffer under 45 bytes; 7. That the points belong to the disk is not checked.
+ * Refusals, in this order: 8 for a buffer under 45 bytes; 7; 15 for points that do not belong to the disk.
  */
 uint64_t volkhidar_write_record(volkhidar_disk disk, volkhidar_support support, uint8_t *buffer, size_t buffer_length);
 
 /*
  * Reads a record. What volkhidar_write_record wrote is read back, and what is read, written again, gives its own bytes.
- * Refusal: 7, for bytes of another length and for a count that disagrees with the repeats, too. That the points belong to the disk is
- * not checked.
+ * Refusals, in this order: 7, for bytes of another length and for a count that disagrees with the repeats, too; 15 for a valid record
+ * whose points do not belong to its disk.
  */
 volkhidar_record_answer volkhidar_read_record(const uint8_t *bytes, size_t length);
 
