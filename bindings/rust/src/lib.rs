@@ -150,7 +150,8 @@ pub fn smallest_disk(list: &mut [i16]) -> Result<Enclosed, Refusal> {
 /// The smallest disk that holds the points of the list, x and y by turns, and has the chosen points on its boundary: smallest of all
 /// disks with a fractional centre and squared radius that do, and no other is as small. One point chosen twice is chosen once. The list
 /// is only read. The centre may be outside the em box and the squared radius above the limit of 500,000; then [`whole_radius`],
-/// [`preview`] and [`write_record`] refuse the disk ([`Refusal::BadRecord`]).
+/// [`preview`] and [`write_record`] refuse the disk ([`Refusal::BadRecord`]). Within these limits they take it with points that
+/// [belong](SupportSet#belonging) to it, which the chosen points need not do.
 ///
 /// Refuses, in this order: [`Refusal::OddLength`], [`Refusal::NoPoint`], [`Refusal::TooMany`], [`Refusal::OutsideBox`];
 /// [`Refusal::NotInList`] for a chosen point that is not in the list, one outside the em box too; [`Refusal::NoDisk`] exactly where
@@ -178,20 +179,26 @@ pub fn smallest_disk_through(list: &[i16], chosen: Chosen) -> Result<Disk, Refus
 /// The smallest disk that holds every traced point of the list, wherever each may really be. The list goes by threes, x, y and t: the
 /// point may be anywhere in the square from (x − t, y − t) to (x + t, y + t), at fractional places too, and t is its tolerance, 0 to
 /// [`MOST_TOLERANCE`] units. The disk holds all of these squares: smallest of all disks with a fractional centre and squared radius
-/// that do, and no other is as small. With every t 0 it is the disk of [`smallest_disk`]. The list is only read.
+/// that do, and no other is as small. With every t 0 it is the disk of [`smallest_disk`]. The list is only read. [`whole_radius`],
+/// [`preview`] and [`write_record`] take the disk with points that [belong](SupportSet#belonging) to it: [`smallest_disk`] of the four
+/// corners of every square, [`MOST_POINTS`] at most, gives the same disk with such a set.
 ///
 /// Refuses, in this order: [`Refusal::OddLength`] for a length that is not a multiple of three, [`Refusal::NoPoint`],
 /// [`Refusal::TooMany`] for more than [`MOST_TRACED`] traced points; the first faulty traced point, by [`Refusal::BadTolerance`],
 /// [`Refusal::OutsideBox`] where its square leaves the em box.
 ///
 /// ```
-/// use volkhidar::{smallest_disk, smallest_disk_of_traced, Disk, Refusal};
+/// use volkhidar::{smallest_disk, smallest_disk_of_traced, whole_radius, Disk, Refusal};
 ///
 /// // a square of side 6, and its corners are √18 away from its middle
 /// assert_eq!(smallest_disk_of_traced(&[5, 6, 3]), Ok(Disk { x: 5, y: 6, e: 1, s: 18 }));
 ///
 /// // (0, 7) and the corners (5, 6) and (5, 8) of a square are on the boundary
-/// assert_eq!(smallest_disk_of_traced(&[0, 7, 0, 4, 7, 1]), Ok(Disk { x: 13, y: 35, e: 5, s: 169 }));
+/// let disk = Disk { x: 13, y: 35, e: 5, s: 169 };
+/// assert_eq!(smallest_disk_of_traced(&[0, 7, 0, 4, 7, 1]), Ok(disk));
+/// let of_corners = smallest_disk(&mut [0, 7, 3, 6, 5, 6, 5, 8, 3, 8])?;
+/// assert_eq!(of_corners.disk, disk);
+/// assert_eq!(whole_radius(disk, of_corners.support), Ok(3));
 ///
 /// let plain = smallest_disk(&mut [0, 0, 4, 0, 2, 3])?.disk;
 /// assert_eq!(smallest_disk_of_traced(&[0, 0, 0, 4, 0, 0, 2, 3, 0]), Ok(plain));
@@ -247,7 +254,8 @@ pub fn reduce_to_hull(list: &mut [i16]) -> Result<usize, Refusal> {
 /// The radius to cut with: the least whole number R with R²e² greater than s. The circle of radius R about the disk's centre keeps off
 /// every point that the disk holds: each lies inside it and none on it.
 ///
-/// Refuses a disk and support set that a valid record could not hold: [`Refusal::BadRecord`].
+/// Refuses, in this order: [`Refusal::BadRecord`] for a disk and support set that a valid record could not hold;
+/// [`Refusal::PointsDoNotFit`] for points that do not [belong](SupportSet#belonging) to the disk.
 ///
 /// ```
 /// use volkhidar::{whole_radius, Disk, Point, Refusal, SupportSet};
@@ -259,6 +267,9 @@ pub fn reduce_to_hull(list: &mut [i16]) -> Result<usize, Refusal> {
 /// // both points are 2 away from the centre: a circle of radius 2 would go through them
 /// let support = SupportSet::Two(Point { x: 0, y: 0 }, Point { x: 4, y: 0 });
 /// assert_eq!(whole_radius(Disk { x: 2, y: 0, e: 1, s: 4 }, support), Ok(3));
+///
+/// // the disk through (0, 0), (2, 3) and (4, 0): without (2, 3) there is a smaller one
+/// assert_eq!(whole_radius(Disk { x: 12, y: 5, e: 6, s: 169 }, support), Err(Refusal::PointsDoNotFit));
 /// ```
 pub fn whole_radius(disk: Disk, support: SupportSet) -> Result<u64, Refusal> {
     let answer = unsafe { raw::volkhidar_whole_radius(disk, support.into()) };
@@ -268,13 +279,18 @@ pub fn whole_radius(disk: Disk, support: SupportSet) -> Result<u64, Refusal> {
 
 /// The centre as x/e and y/e, each divided once and rounded once, and the whole radius (see [`whole_radius`]).
 ///
-/// Refuses a disk and support set that a valid record could not hold: [`Refusal::BadRecord`].
+/// Refuses what [`whole_radius`] refuses, in the same order: [`Refusal::BadRecord`], [`Refusal::PointsDoNotFit`].
 ///
 /// ```
-/// use volkhidar::{preview, Disk, Point, Preview, SupportSet};
+/// use volkhidar::{preview, Disk, Point, Preview, Refusal, SupportSet};
 ///
 /// let support = SupportSet::Two(Point { x: 0, y: 0 }, Point { x: 3, y: 0 });
 /// assert_eq!(preview(Disk { x: 3, y: 0, e: 2, s: 9 }, support), Ok(Preview { x: 1.5, y: 0.0, radius: 2.0 }));
+///
+/// // a right angle at (0, 0): it is on the boundary, and the two others have the disk without it
+/// let (disk, corner, a, b) = (Disk { x: 3, y: 4, e: 1, s: 25 }, Point { x: 0, y: 0 }, Point { x: 0, y: 8 }, Point { x: 6, y: 0 });
+/// assert_eq!(preview(disk, SupportSet::Three(corner, a, b)), Err(Refusal::PointsDoNotFit));
+/// assert_eq!(preview(disk, SupportSet::Two(a, b)), Ok(Preview { x: 3.0, y: 4.0, radius: 6.0 }));
 /// ```
 pub fn preview(disk: Disk, support: SupportSet) -> Result<Preview, Refusal> {
     let answer = unsafe { raw::volkhidar_preview(disk, support.into()) };
@@ -283,10 +299,10 @@ pub fn preview(disk: Disk, support: SupportSet) -> Result<Preview, Refusal> {
 }
 
 /// Writes the record of a disk and its support set into the first [`RECORD_LENGTH`] bytes of the buffer; the rest stays. The record
-/// has three points, the last repeated where there are fewer, and in its last byte how many are meant: 1, 2 or 3. Whether the points
-/// belong to the disk is not checked.
+/// has three points, the last repeated where there are fewer, and in its last byte how many are meant: 1, 2 or 3.
 ///
-/// Refuses, in this order: [`Refusal::NoRoom`] for a shorter buffer; [`Refusal::BadRecord`].
+/// Refuses, in this order: [`Refusal::NoRoom`] for a shorter buffer; [`Refusal::BadRecord`] for a disk and support set that a valid
+/// record could not hold; [`Refusal::PointsDoNotFit`] for points that do not [belong](SupportSet#belonging) to the disk.
 ///
 /// ```
 /// use volkhidar::{write_record, Disk, Point, Refusal, SupportSet};
@@ -297,15 +313,18 @@ pub fn preview(disk: Disk, support: SupportSet) -> Result<Preview, Refusal> {
 /// assert_eq!(buffer[..8], [0, 0, 0, 0, 0, 0, 0, 7]);
 /// assert_eq!(buffer[44..], [1, 0xEE]);
 /// assert_eq!(write_record(disk, support, &mut buffer[..44]), Err(Refusal::NoRoom));
+///
+/// // a single point belongs to no disk but itself
+/// assert_eq!(write_record(Disk { s: 1, ..disk }, support, &mut buffer), Err(Refusal::PointsDoNotFit));
 /// ```
 pub fn write_record(disk: Disk, support: SupportSet, buffer: &mut [u8]) -> Result<(), Refusal> {
     checked(unsafe { raw::volkhidar_write_record(disk, support.into(), buffer.as_mut_ptr(), buffer.len()) })
 }
 
-/// Reads a record: what [`write_record`] wrote is read back, and what is read, written again, gives its own bytes. Whether the points
-/// belong to the disk is not checked.
+/// Reads a record: what [`write_record`] wrote is read back, and what is read, written again, gives its own bytes.
 ///
-/// Refuses any other bytes: [`Refusal::BadRecord`], for another length and for a count that disagrees with the repeats, too.
+/// Refuses, in this order: [`Refusal::BadRecord`], for bytes of another length and for a count that disagrees with the repeats, too;
+/// [`Refusal::PointsDoNotFit`] for a valid record whose points do not [belong](SupportSet#belonging) to its disk.
 ///
 /// ```
 /// use volkhidar::{read_record, record_of, Point, Refusal, SupportSet, RECORD_LENGTH};
@@ -314,6 +333,10 @@ pub fn write_record(disk: Disk, support: SupportSet, buffer: &mut [u8]) -> Resul
 /// record_of(b"0 0\n3 0\n", &mut record)?;
 /// assert_eq!(read_record(&record)?.1, SupportSet::Two(Point { x: 0, y: 0 }, Point { x: 3, y: 0 }));
 /// assert_eq!(read_record(&record[..44]), Err(Refusal::BadRecord));
+///
+/// // (4, 0) in place of (3, 0), and then another count
+/// (record[37], record[41]) = (4, 4);
+/// assert_eq!(read_record(&record), Err(Refusal::PointsDoNotFit));
 /// record[44] = 3;
 /// assert_eq!(read_record(&record), Err(Refusal::BadRecord));
 /// # Ok::<(), Refusal>(())

@@ -121,6 +121,43 @@ mod tests {
         assert_eq!(unsafe { volkhidar_whole_radius(disk, no_set(1)) }.refusal, 0);
     }
 
+    /// The points (0, 0) and (2, 3) belong to the disk, (4, 0) is outside.
+    #[test]
+    fn points_behind_the_size_are_not_looked_at() {
+        let disk = Disk { x: 2, y: 3, e: 2, s: 13 };
+        let far = Point { x: i16::MIN, y: i16::MAX };
+        for (size, third, refusal) in [(2, Point { x: 4, y: 0 }, 0), (2, far, 0), (3, Point { x: 4, y: 0 }, 15), (3, far, 7)] {
+            let set = || Support { size, points: [ORIGIN, Point { x: 2, y: 3 }, third] };
+            let mut buffer = [0; 45];
+            assert_eq!(unsafe { volkhidar_whole_radius(disk, set()) }.refusal, refusal);
+            assert_eq!(unsafe { volkhidar_preview(disk, set()) }.refusal, refusal);
+            assert_eq!(unsafe { volkhidar_write_record(disk, set(), buffer.as_mut_ptr(), 45) }, refusal);
+        }
+    }
+
+    /// Letter F's disk with two of its three points, and as a record.
+    #[test]
+    fn points_that_do_not_belong_get_nothing_else() {
+        let disk = Disk { x: 12, y: 5, e: 6, s: 169 };
+        let end = Point { x: 4, y: 0 };
+        let set = || Support { size: 2, points: [ORIGIN, end, end] };
+        let radius = unsafe { volkhidar_whole_radius(disk, set()) };
+        assert_eq!((radius.refusal, radius.radius), (15, 0));
+        let preview = unsafe { volkhidar_preview(disk, set()) };
+        assert_eq!((preview.refusal, [preview.x, preview.y, preview.radius].map(f64::to_bits)), (15, [0; 3]));
+        let mut buffer = [0xEE; 46];
+        assert_eq!(unsafe { volkhidar_write_record(disk, set(), buffer.as_mut_ptr(), 46) }, 15);
+        assert_eq!(buffer, [0xEE; 46]);
+
+        let mut bytes = [0; 45];
+        (bytes[7], bytes[15], bytes[23], bytes[31]) = (12, 5, 6, 169);
+        (bytes[37], bytes[41], bytes[44]) = (4, 4, 2);
+        let read = unsafe { volkhidar_read_record(bytes.as_ptr(), 45) };
+        let Disk { x, y, e, s } = read.disk;
+        assert_eq!((read.refusal, x, y, e, s, read.support.size), (15, 0, 0, 0, 0, 0));
+        assert_eq!(read.support.points, [ORIGIN; 3]);
+    }
+
     #[test]
     fn kinds_that_no_drawn_point_has() {
         let mut list = [-7; 8_192];

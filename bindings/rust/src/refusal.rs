@@ -33,10 +33,12 @@ pub enum Refusal {
     NoDisk = 13,
     /// A tolerance t outside 0 to 50.
     BadTolerance = 14,
+    /// Points that do not [belong](crate::SupportSet#belonging) to their disk.
+    PointsDoNotFit = 15,
 }
 
 impl Refusal {
-    const ALL: [Refusal; 14] = [
+    const ALL: [Refusal; 15] = [
         Refusal::TooLong,
         Refusal::BadLine,
         Refusal::OutsideBox,
@@ -51,6 +53,7 @@ impl Refusal {
         Refusal::NotInList,
         Refusal::NoDisk,
         Refusal::BadTolerance,
+        Refusal::PointsDoNotFit,
     ];
 
     /// The number that the C interface and the listing program give it.
@@ -76,6 +79,7 @@ impl fmt::Display for Refusal {
             Refusal::NotInList => "a chosen point that is not in the list",
             Refusal::NoDisk => "no disk holds the list with the chosen points on its boundary",
             Refusal::BadTolerance => "a tolerance t outside 0 to 50",
+            Refusal::PointsDoNotFit => "points that do not belong to their disk",
         })
     }
 }
@@ -97,7 +101,7 @@ mod tests {
     #[test]
     fn numbers_go_round() {
         assert_eq!(checked(0), Ok(()));
-        for number in 1..=14 {
+        for number in 1..=15 {
             assert_eq!(checked(number).map_err(|refusal| u64::from(refusal.number())), Err(number));
         }
     }

@@ -1,6 +1,18 @@
 use crate::raw::{self, Disk, Point};
 
 /// One to three points whose own smallest disk is that of the whole list, in rising order.
+///
+/// # Belonging
+///
+/// The points of a set belong to a disk if their smallest disk is this disk, and with any one of them left out it is another, or there is
+/// none because no point is left. So one point belongs to the disk of radius 0 that it is itself; two belong to the disk of which they
+/// are the ends of a diameter; three belong to the disk that has them all on its boundary if their triangle is acute (a right angle's
+/// point is one too many); and to no other disk.
+///
+/// [`whole_radius`](crate::whole_radius), [`preview`](crate::preview), [`write_record`](crate::write_record) and
+/// [`read_record`](crate::read_record) test this, after all else, and refuse with
+/// [`Refusal::PointsDoNotFit`](crate::Refusal::PointsDoNotFit). So a disk and set that one of them takes, and a record that is read, are
+/// what [`smallest_disk`](crate::smallest_disk) gives for the named points alone; and whatever that gives, they take.
 #[derive(Clone, Copy, PartialEq, Eq, Hash, Debug)]
 pub enum SupportSet {
     One(Point),

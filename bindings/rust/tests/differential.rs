@@ -1,6 +1,7 @@
 //! The wrappers against the independent implementation in `tests/reference`, on drawn input. Every case has a fixed seed; a failure
 //! names it.
 
+mod belonging;
 mod hull;
 
 use reference::chosen;
@@ -76,6 +77,7 @@ fn compare_writer(disk: Disk, support: SupportSet, room: usize, name: &str) {
     }
 }
 
+/// A record that is read gives its own bytes again, and is what the engine gives for its points alone.
 fn compare_reader(bytes: &[u8], name: &str) {
     let seen = ours(read_record(bytes));
     let expected = number(record::read(bytes));
@@ -84,6 +86,8 @@ fn compare_reader(bytes: &[u8], name: &str) {
         let mut again = [0; RECORD_LENGTH];
         assert_eq!(write_record(disk, support, &mut again), Ok(()), "{name}");
         assert_eq!(again[..], *bytes, "written again: {name}");
+        let found = smallest_disk(&mut flat(&points(support))).unwrap();
+        assert_eq!((found.disk, found.support), (disk, support), "its points alone: {name}");
     }
 }
 
@@ -164,20 +168,30 @@ fn compare_chosen(list: &[i16], chosen: chosen::Chosen, name: &str) {
     }
 }
 
-/// The disk of traced points, with the list unchanged; then radius, preview and record of it with a point as its set, for it keeps to a
-/// record's limits. Answers the number of the refusal, or 0.
+/// The disk of traced points, with the list unchanged; then radius, preview and record of it with the support set of the squares' corners,
+/// whose disk it is. Answers the number of the refusal, or 0.
 fn compare_traced(list: &[i16], name: &str) -> u8 {
     let read = list.to_vec();
     let found = ours(smallest_disk_of_traced(&read));
     assert_eq!(found.map(disk_of), number(traced::smallest_disk_of_traced(list)), "{name}");
     assert_eq!(read, list, "the list: {name}");
     if let Ok(disk) = found {
-        let support = SupportSet::One(Point { x: list[0], y: list[1] });
-        assert!(whole_radius(disk, support).is_ok(), "limits: {name}");
-        compare_figures(disk, support, name);
-        compare_writer(disk, support, 60, name);
+        let of_corners = smallest_disk(&mut corners_of_squares(list)).unwrap();
+        assert_eq!(of_corners.disk, disk, "corners: {name}");
+        assert!(whole_radius(disk, of_corners.support).is_ok(), "limits: {name}");
+        compare_figures(disk, of_corners.support, name);
+        compare_writer(disk, of_corners.support, 60, name);
     }
     found.err().unwrap_or(0)
+}
+
+/// The four corners of the square of each traced point.
+fn corners_of_squares(list: &[i16]) -> Vec<i16> {
+    let corners = |three: &[i16]| {
+        let (x, y, t) = (three[0], three[1], three[2]);
+        [x - t, y - t, x + t, y - t, x - t, y + t, x + t, y + t]
+    };
+    list.chunks_exact(3).flat_map(corners).collect()
 }
 
 /// The points of a list by threes, each with t 0, lead to the answer of the points alone.
@@ -431,7 +445,9 @@ fn the_largest_disk_of_traced_points() {
     let list = [50, -200, 50, 950, -200, 50, 50, 700, 50, 950, 700, 50];
     let disk = Disk { x: 500, y: 250, e: 1, s: 500_000 };
     assert_eq!(smallest_disk_of_traced(&list), Ok(disk));
-    assert_eq!(whole_radius(disk, SupportSet::One(Point { x: 50, y: -200 })), Ok(708));
+    let (foot, top) = (Point { x: 0, y: -250 }, Point { x: 1_000, y: 750 });
+    assert_eq!(whole_radius(disk, SupportSet::Two(foot, top)), Ok(708));
+    assert_eq!(whole_radius(disk, SupportSet::One(Point { x: 50, y: -200 })), Err(Refusal::PointsDoNotFit));
     compare_traced(&list, "squares in the corners of the em box");
 }
 
