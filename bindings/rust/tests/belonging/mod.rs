@@ -1,11 +1,10 @@
 //! Disks with points that belong to them and with points that do not, and their records: what the engine gives passes in every call, and
 //! every damage to it gets what the reference says.
 
-use super::{compare_figures, compare_reader, compare_writer, disk_of, lent, ours, points};
+use super::{compare_figures, compare_reader, compare_writer, lent, ours};
 use reference::engine::{flat, solve};
 use reference::geometry::{scalar, Disk as ExpectedDisk, Point as ExpectedPoint};
 use reference::limits::{FOOT, LEFT, MOST_E, MOST_SQUARE, RIGHT, TOP};
-use reference::random::Random;
 use reference::{letters, lists, record};
 use std::collections::BTreeMap;
 use volkhidar::*;
@@ -87,7 +86,7 @@ fn answers_of_the_engine_damaged() {
     assert!([0, 7, 15].iter().all(|&number| times[number] > 5_000), "{times:?}");
 }
 
-/// Some of these records are refused with 7, the others with 15; a record that another bit makes fit again is read.
+/// Nearly all are refused, with 7 or 15; in a few the points are others and belong to the disk all the same.
 #[test]
 fn records_with_one_bit_flipped() {
     let mut times = [0; 16];
@@ -160,7 +159,7 @@ fn every_set_of_points_on_one_circle() {
         }
     }
     assert_eq!(times[1][1], 0, "a point on a circle around it");
-    assert!([times[1][0], times[2][0], times[2][1], times[3][0], times[3][1]].iter().all(|&number| number > 100), "{times:?}");
+    assert!([times[1][0], times[2][0], times[2][1], times[3][0], times[3][1]].iter().all(|&number| number > 50), "{times:?}");
 }
 
 #[rustfmt::skip]
