@@ -1,7 +1,7 @@
 /*
  * The way of a letter through the library: a description is read, its smallest disk worked out, and a record written and read back.
  * Then the same letter from a drawing program's own values, another letter's disk turned against a stop, a hand-traced letter, a
- * scanned outline that is reduced to its hull, and a record that came to harm.
+ * scanned outline that is reduced to its hull, and a damaged record.
  *
  *   bindings/c/run      builds and runs it on letter F of the papers
  *   bindings/c/run -    reads a description from standard input
@@ -124,8 +124,8 @@ static int work_out_hull(void) {
     return 0;
 }
 
-/* Letter F's record with (1, 3) in place of (2, 3): it is a valid one still, but its points no longer belong to its disk. */
-static int read_harmed_record(void) {
+/* Letter F's record with (1, 3) in place of (2, 3): a valid record still, but its points do not belong to its disk. */
+static int read_damaged_record(void) {
     uint8_t record[VOLKHIDAR_RECORD_LENGTH];
     uint64_t refusal = volkhidar_record_of((const uint8_t *)letter_f, sizeof letter_f - 1, record, sizeof record);
     if (refusal) return refused(refusal);
@@ -141,5 +141,5 @@ int main(int argc, char **argv) {
         return work_out(text, fread(text, 1, sizeof text, stdin));
     }
     return work_out((const uint8_t *)letter_f, sizeof letter_f - 1) || work_out_drawing() || work_out_against_stop() ||
-           work_out_traced() || work_out_hull() || read_harmed_record();
+           work_out_traced() || work_out_hull() || read_damaged_record();
 }
