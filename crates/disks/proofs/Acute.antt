@@ -46,7 +46,7 @@ pair-own b c = record {
     Held : Point → Type 0
     Held p = value (pairForm b c) p ≤ℤ pos 0
 
-pair-angle : (a b c : Point) → value (pairForm b c) a ≡ pos 2 *ℤ angle a b c
+pub pair-angle : (a b c : Point) → value (pairForm b c) a ≡ pos 2 *ℤ angle a b c
 pair-angle a b c = ring (a .x ∷ a .y ∷ b .x ∷ b .y ∷ c .x ∷ c .y ∷ []) (search poly depth 30) tt
 
 pub blunt : (a b c : Point) → angle a b c ≤ℤ pos 0 → StronglyMinimal (a ∷ b ∷ c ∷ []) [] (pairForm b c)

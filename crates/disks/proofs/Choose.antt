@@ -30,7 +30,7 @@ pub record Fronted (p : Point) (cs : List (List Point)) (T : List Point) : Type 
   pub is : T ≡ p ∷ rest
   pub among : Among rest cs
 
-fronted-in : (p : Point) (cs : List (List Point)) {T : List Point} → Among T (fronted p cs) → Fronted p cs T
+pub fronted-in : (p : Point) (cs : List (List Point)) {T : List Point} → Among T (fronted p cs) → Fronted p cs T
 unfolding fronted
 fronted-in p [] i = absurd (List·Memᴰ·not-nil i)
 fronted-in p (S ∷ cs) {T} i = go (λ k. fronted-in p cs k) (List·Memᴰ·cases-cons i)
@@ -39,7 +39,7 @@ fronted-in p (S ∷ cs) {T} i = go (λ k. fronted-in p cs k) (List·Memᴰ·case
     go f (inl e) = record { rest = S; is = e; among = List·Memᴰ·head refl }
     go f (inr k) = let r = f k in record { rest = r .rest; is = r .is; among = List·Memᴰ·tail (r .among) }
 
-in-fronted : (p : Point) (cs : List (List Point)) {T : List Point} → Among T cs → Among (p ∷ T) (fronted p cs)
+pub in-fronted : (p : Point) (cs : List (List Point)) {T : List Point} → Among T cs → Among (p ∷ T) (fronted p cs)
 unfolding fronted
 in-fronted p [] i = absurd (List·Memᴰ·not-nil i)
 in-fronted p (S ∷ cs) {T} i = go (λ k. in-fronted p cs k) (List·Memᴰ·cases-cons i)

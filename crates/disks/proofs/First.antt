@@ -58,7 +58,7 @@ earlier-asym (lexical e h) (lexical f k) = lexical-asym h k
 
 -- ---- the test
 
-same-disk-eq : (c d : Disk) → T (sameDisk c d) → c ≡ d
+pub same-disk-eq : (c d : Disk) → T (sameDisk c d) → c ≡ d
 unfolding sameDisk
 same-disk-eq c d t = λ i. record {
   x = eqZ-eq (c .x) (d .x) (and-left x (y && (e && s)) t) i;
@@ -86,7 +86,7 @@ same-disk-eq c d t = λ i. record {
     last : T (e && s)
     last = and-right y (e && s) rest
 
-same-disk-refl : (d : Disk) → T (sameDisk d d)
+pub same-disk-refl : (d : Disk) → T (sameDisk d d)
 unfolding sameDisk
 same-disk-refl d = and-both (eqZ (d .x) (d .x)) (eqZ (d .y) (d .y) && (eqb (d .e) (d .e) && eqb (d .s) (d .s))) (eq-eqZ (d .x) (d .x) refl)
     (and-both (eqZ (d .y) (d .y)) (eqb (d .e) (d .e) && eqb (d .s) (d .s)) (eq-eqZ (d .y) (d .y) refl)

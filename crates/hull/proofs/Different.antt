@@ -20,12 +20,11 @@ use Rattle.geometry.specs.Order.{before}
 use Rattle.point_lists.specs.Sets.{In, Different}
 use Rattle.point_lists.specs.Rising.{insert, sorted, Rising}
 use Rattle.point_lists.proofs.Order.{before-not-equal, ByOrder, ahead, behind, level, by-order}
-use Rattle.point_lists.proofs.Rising.{insert-none, insert-ahead, insert-behind, sorted-rises, sorted-same, sorted-length}
+use Rattle.point_lists.proofs.Rising.{insert-none, insert-ahead, insert-behind, sorted-rises, sorted-same, sorted-length, fewer-or-same}
 use Rattle.hull.specs.Hull.{cross, LeftTurns, OnLeft}
 use Rattle.hull.specs.Chains.{push, chain, butLast, inner, around, hullOf}
 use Rattle.hull.proofs.Turns.{falling, balance, turned-back}
 use Rattle.hull.proofs.Unique.{row-of-two}
-use Rattle.hull.proofs.SameDisk.{fewer-or-same}
 use Rattle.hull.proofs.Pushed.{Sorted, last, last-in}
 use Rattle.hull.proofs.Directions.{Rises, Falls}
 use Rattle.hull.proofs.Joined.{butLast-in, butLast-less, Chains}

@@ -5,7 +5,6 @@
 --   smallest-to, smallest-from : a smallest disk of P is one of H, and the other way round
 --   boundary-corner      : a point of P on the boundary of a disk that holds H is one of H
 --   BoundarySet, boundary-set  == of a support set, a support set among those of its points that are on the boundary
---   fewer-or-same        : a rising list of points of a rising list is that list, or shorter
 --   smallest-hull        : the smallest disk of P is that of its hull
 --   first-support-hull   : the first support set of P is that of its hull
 --   disk-of-hull, support-of-hull : the same of `diskOf` and `firstSupport`
@@ -26,8 +25,7 @@ use Rattle.geometry.specs.Plane.{distance, holds, onBoundary}
 use Rattle.point_lists.specs.Sets.{In}
 use Rattle.point_lists.specs.Rising.{sorted, Rising}
 use Rattle.point_lists.proofs.Sets.{same-refl}
-use Rattle.point_lists.proofs.Order.{before-trans, before-not-equal}
-use Rattle.point_lists.proofs.Rising.{sorted-rises, sorted-same, sorted-length}
+use Rattle.point_lists.proofs.Rising.{sorted-rises, sorted-same, sorted-length, fewer-or-same}
 use Rattle.disks.specs.Smallest.{RationalDisk, reach, Fits, Smallest}
 use Rattle.disks.specs.Procedure.{diskOf}
 use Rattle.disks.specs.Support.{firstSupport}
@@ -150,42 +148,6 @@ module _ {P : List Point} (q : Point) (Q : List Point) (s : IsSupport P (q ∷ Q
 pub boundary-set : {P : List Point} (R : List Point) (s : IsSupport P R) → BoundarySet P R (s .disk)
 boundary-set [] s = absurd (no-points (s .some))
 boundary-set (q ∷ Q) s = in-boundary q Q s (support (strong q Q s))
-
--- ---- rising lists
-
-pub fewer-or-same : (S R : List Point) → Rising S → Rising R → ((p : Point) → In p S → In p R) → (S ≡ R) ⊎ (length S < length R)
-fewer-or-same [] [] s r f = inl refl
-fewer-or-same [] (b ∷ R) s r f = inr (omega arith)
-fewer-or-same (a ∷ S) [] s r f = absurd (List·Memᴰ·not-nil (f a (List·Memᴰ·head refl)))
-fewer-or-same (a ∷ S) (b ∷ R) s r f = go (λ g. fewer-or-same S R (s .1) (r .1) g) (λ g. fewer-or-same (a ∷ S) R s (r .1) g)
-    (List·Memᴰ·cases-cons (f a (List·Memᴰ·head refl)))
-  where
-    not-first : {x : Point} → (b ≡ x → ⊥) → (x ≡ b) ⊎ In x R → In x R
-    not-first n (inl e) = absurd (n (sym e))
-    not-first n (inr i) = i
-
-    -- the points of S come after a, and so does a after b where it is in R
-    later : a ≡ b → (x : Point) → In x S → In x R
-    later e x i = not-first (λ d. before-not-equal a x (s .0 x i) (e ∙ d)) (List·Memᴰ·cases-cons (f x (List·Memᴰ·tail i)))
-
-    all-later : In a R → (x : Point) → (x ≡ a) ⊎ In x S → In x (a ∷ S) → In x R
-    all-later k x (inl e) i = subst (λ (y : Point). In y R) (sym e) k
-    all-later k x (inr j) i = not-first (before-not-equal b x (before-trans b a x (r .0 a k) (s .0 x j))) (List·Memᴰ·cases-cons (f x i))
-
-    longer : ((a ∷ S) ≡ R) ⊎ (suc (length S) < length R) → suc (length S) < suc (length R)
-    longer (inl e) = let n : suc (length S)
-        ≡ length R = ap length e in omega arith
-    longer (inr h) = omega arith
-
-    next : a ≡ b → (S ≡ R) ⊎ (length S < length R) → ((a ∷ S) ≡ (b ∷ R)) ⊎ (suc (length S) < suc (length R))
-    next e (inl d) = inl (ap {B = List Point} (λ x. x ∷ S) e ∙ ap {B = List Point} (λ l. b ∷ l) d)
-    next e (inr h) = inr (omega arith)
-
-    go : (((x : Point) → In x S → In x R) → (S ≡ R) ⊎ (length S < length R))
-        → (((x : Point) → In x (a ∷ S) → In x R) → ((a ∷ S) ≡ R) ⊎ (suc (length S) < length R))
-        → (a ≡ b) ⊎ In a R → ((a ∷ S) ≡ (b ∷ R)) ⊎ (suc (length S) < suc (length R))
-    go g h (inl e) = next e (g (later e))
-    go g h (inr k) = inr (longer (h (λ x i. all-later k x (List·Memᴰ·cases-cons i) i)))
 
 -- ---- the first
 

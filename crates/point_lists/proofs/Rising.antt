@@ -5,11 +5,12 @@
 --   insert-rises, insert-length               : it rises where Q does, and has at most one point more
 --   sorted-rises, sorted-same, sorted-length  : `sorted P` rises, has the points of P, and is no longer
 --   rising-test                               : the test `rising` holds where and only where the list rises
-use mathlib.Core.Path.{_≡_, refl, sym, subst}
+--   fewer-or-same                             : a rising list of points of a rising list is that list, or shorter
+use mathlib.Core.Path.{_≡_, refl, sym, _∙_, ap, subst}
 use mathlib.Core.Logic.{_⊎_, inl, inr}
 use mathlib.Core.Bool.{true, false}
 use mathlib.Core.List.{List, [], _∷_, List·Memᴰ·head, List·Memᴰ·tail, List·Memᴰ·cases-cons, List·Memᴰ·not-nil, Memᴰ·cast}
-use Prim.Native.Nat.{suc, _≤_}
+use Prim.Native.Nat.{suc, _≤_, _<_}
 use native.Mathlib.Omega.{arith}
 use lib.ListN.{length}
 use lib.Dec.{T}
@@ -19,7 +20,7 @@ use Rattle.geometry.specs.Order.{before}
 use Rattle.point_lists.specs.Sets.{In, Same}
 use Rattle.point_lists.specs.Rising.{Rising, rising, insert, sorted}
 use Rattle.point_lists.proofs.Sets.{none-of, also}
-use Rattle.point_lists.proofs.Order.{before-trans, ByOrder, ahead, behind, level, by-order}
+use Rattle.point_lists.proofs.Order.{before-trans, before-not-equal, ByOrder, ahead, behind, level, by-order}
 
 -- ---- `insert`, by the outcome of its tests
 
@@ -157,3 +158,38 @@ test-rises (p ∷ q ∷ S) h = go (test-rises (q ∷ S) (rest (before p q) (risi
 
 pub rising-test : (S : List Point) → (Rising S → rising S ≡ true) × (rising S ≡ true → Rising S)
 rising-test S = (rises-test S, test-rises S)
+
+-- ---- two rising lists
+
+pub fewer-or-same : (S R : List Point) → Rising S → Rising R → ((p : Point) → In p S → In p R) → (S ≡ R) ⊎ (length S < length R)
+fewer-or-same [] [] s r f = inl refl
+fewer-or-same [] (b ∷ R) s r f = inr (omega arith)
+fewer-or-same (a ∷ S) [] s r f = absurd (List·Memᴰ·not-nil (f a (List·Memᴰ·head refl)))
+fewer-or-same (a ∷ S) (b ∷ R) s r f = go (λ g. fewer-or-same S R (s .1) (r .1) g) (λ g. fewer-or-same (a ∷ S) R s (r .1) g)
+    (List·Memᴰ·cases-cons (f a (List·Memᴰ·head refl)))
+  where
+    not-first : {x : Point} → (b ≡ x → ⊥) → (x ≡ b) ⊎ In x R → In x R
+    not-first n (inl e) = absurd (n (sym e))
+    not-first n (inr i) = i
+
+    -- the points of S come after a, and so does a after b where it is in R
+    later : a ≡ b → (x : Point) → In x S → In x R
+    later e x i = not-first (λ d. before-not-equal a x (s .0 x i) (e ∙ d)) (List·Memᴰ·cases-cons (f x (List·Memᴰ·tail i)))
+
+    all-later : In a R → (x : Point) → (x ≡ a) ⊎ In x S → In x (a ∷ S) → In x R
+    all-later k x (inl e) i = subst (λ (y : Point). In y R) (sym e) k
+    all-later k x (inr j) i = not-first (before-not-equal b x (before-trans b a x (r .0 a k) (s .0 x j))) (List·Memᴰ·cases-cons (f x i))
+
+    longer : ((a ∷ S) ≡ R) ⊎ (suc (length S) < length R) → suc (length S) < suc (length R)
+    longer (inl e) = let n : suc (length S) ≡ length R = ap length e in omega arith
+    longer (inr h) = omega arith
+
+    next : a ≡ b → (S ≡ R) ⊎ (length S < length R) → ((a ∷ S) ≡ (b ∷ R)) ⊎ (suc (length S) < suc (length R))
+    next e (inl d) = inl (ap {B = List Point} (λ x. x ∷ S) e ∙ ap {B = List Point} (λ l. b ∷ l) d)
+    next e (inr h) = inr (omega arith)
+
+    go : (((x : Point) → In x S → In x R) → (S ≡ R) ⊎ (length S < length R))
+        → (((x : Point) → In x (a ∷ S) → In x R) → ((a ∷ S) ≡ R) ⊎ (suc (length S) < length R))
+        → (a ≡ b) ⊎ In a R → ((a ∷ S) ≡ (b ∷ R)) ⊎ (suc (length S) < suc (length R))
+    go g h (inl e) = next e (g (later e))
+    go g h (inr k) = inr (longer (h (λ x i. all-later k x (List·Memᴰ·cases-cons i) i)))
