@@ -31,6 +31,8 @@ pub enum Refusal {
     NoDisk,
     // A traced point whose t is outside 0 to 50.
     BadTolerance,
+    // Points that do not belong to their disk.
+    PointsDoNotFit,
 }
 
 // The number that document 01 or 02 gives the refusal.
@@ -52,5 +54,6 @@ pub fn number(r: Refusal) -> u8
         Refusal::NotInList => 12,
         Refusal::NoDisk => 13,
         Refusal::BadTolerance => 14,
+        Refusal::PointsDoNotFit => 15,
     }
 }

@@ -1,0 +1,44 @@
+-- What the tests may ask of a disk and points that a record can hold.
+--
+--   known          : the disk keeps to the limits, and the points lie in the em box
+--   tested-one, tested-two, tested-three : the tests of Tests.antt, for such a disk and points
+use mathlib.Core.Path.{_≡_}
+use mathlib.Core.Bool.{true, _&&_}
+use mathlib.Core.List.{List, [], _∷_, List·Memᴰ·head}
+use mathlib.Core.Path.{refl}
+use lib.Dec.{T, eqb}
+use Rattle.geometry.specs.declared.Point.{Point}
+use Rattle.geometry.specs.declared.Disk.{Disk}
+use Rattle.geometry.specs.EmBox.{em, inEmBox, WithinLimits}
+use Rattle.geometry.proofs.EmBox.{box-members}
+use Rattle.point_lists.specs.Sets.{In}
+use Rattle.point_lists.proofs.Order.{before-not-equal}
+use Rattle.point_lists.proofs.Rising.{rising-test}
+use Rattle.support_tests.specs.Tests.{onBoundaryTest, opposite, acute}
+use Rattle.validity.specs.Valid.{valid, validDisk}
+use Rattle.validity.proofs.ValidLaws.{limits, valid-disk, valid-points, rises, boxed, valid-lowest, valid-within}
+use Rattle.belonging.specs.Belonging.{belongs}
+use Rattle.belonging.proofs.Tests.{belongs-one, belongs-two, belongs-three}
+
+pub record Known (d : Disk) (ps : List Point) : Type 0 where
+  pub within : WithinLimits em d
+  pub in-box : (p : Point) → In p ps → T (inEmBox p)
+
+pub known : (d : Disk) (ps : List Point) → valid d ps ≡ true → Known d ps
+known d ps h = record { within = valid-within em d (valid-disk em d ps h); in-box = box-members ps (boxed em ps (valid-points em d ps h)) }
+
+module _ (d : Disk) (a : Point) (h : valid d (a ∷ []) ≡ true) where
+  pub tested-one : belongs d (a ∷ []) ≡ (onBoundaryTest d a && eqb (d .s) 0)
+  tested-one = let v = valid-disk em d (a ∷ []) h in belongs-one d (limits em d v .e-some) (valid-lowest em d v) a
+
+module _ (d : Disk) (a b : Point) (h : valid d (a ∷ b ∷ []) ≡ true) where
+  -- the points rise
+  apart : a ≡ b → ⊥
+  apart = before-not-equal a b (rising-test (a ∷ b ∷ []) .1 (rises em (a ∷ b ∷ []) (valid-points em d (a ∷ b ∷ []) h)) .0 b (List·Memᴰ·head refl))
+
+  pub tested-two : belongs d (a ∷ b ∷ []) ≡ (onBoundaryTest d a && opposite d a b)
+  tested-two = let v = valid-disk em d (a ∷ b ∷ []) h in belongs-two d (limits em d v .e-some) (valid-lowest em d v) a b apart
+
+module _ (d : Disk) (a b c : Point) (h : valid d (a ∷ b ∷ c ∷ []) ≡ true) where
+  pub tested-three : belongs d (a ∷ b ∷ c ∷ []) ≡ (onBoundaryTest d a && (onBoundaryTest d b && (onBoundaryTest d c && acute a b c)))
+  tested-three = let v = valid-disk em d (a ∷ b ∷ c ∷ []) h in belongs-three d (limits em d v .e-some) (valid-lowest em d v) a b c
