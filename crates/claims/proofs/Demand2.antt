@@ -17,7 +17,7 @@ use Rattle.engine.specs.Engine.{Enclosure, enclosure, encloseOf}
 use Rattle.engine.proofs.Accepted.{accepted-list, has-point}
 use Rattle.record_reader.specs.Reading.{readOf}
 use Rattle.record_reader.proofs.RoundTrip.{read-written, written-again}
-use Rattle.claims.proofs.Records.{written, written-valid, filled}
+use Rattle.claims.proofs.Records.{written, written-checked, filled}
 use Rattle.claims.specs.Demand2.{EngineIsRight, RecordsGoRound, Demand2}
 
 right : (P : List Point) → (P ≡ [] → ⊥) → allInEmBox P ≡ true → EngineIsRight P (enclosure P)
@@ -37,7 +37,7 @@ engine-right l e h =
 
 records-go-round : RecordsGoRound
 records-go-round = record {
-  read-back = λ d ps buf e. ap readOf (filled d ps buf e) ∙ read-written d ps (written-valid d ps buf e .1);
+  read-back = λ d ps buf e. ap readOf (filled d ps buf e) ∙ read-written d ps (written-checked d ps buf e .1);
   write-back = λ bs bytes d ps e buf h.
       let again = written-again bs bytes d ps e in
       let done = written d ps buf (again .0) h in

@@ -33,6 +33,8 @@ use Rattle.engine.specs.Engine.{Enclosure, enclosure, encloseOf, listAfter}
 use Rattle.engine.proofs.Checks.{list-accepted}
 use Rattle.engine.proofs.Accepted.{Accepted, accepted-list, has-point}
 use Rattle.validity.specs.Valid.{valid}
+use Rattle.disk_checks.specs.Checks.{checkOf}
+use Rattle.disk_checks.proofs.CheckLaws.{passed}
 use Rattle.record_writer.specs.Layout.{recordLength}
 use Rattle.record_writer.specs.Bytes.{recordBytes}
 use Rattle.radius.specs.Radius.{wholeRadius, radiusOf}
@@ -40,8 +42,8 @@ use Rattle.record_writer.specs.Writing.{writeOf, bufferAfter}
 use Rattle.record_reader.proofs.RoundTrip.{record-injective}
 use Rattle.preview.specs.Preview.{floats, previewOf}
 use Rattle.letter.specs.Letter.{enclosureIn}
-use Rattle.letter.proofs.ValidAnswer.{valid-enclosure}
-use Rattle.letter.proofs.Whole.{enclosure-given, enclosure-valid}
+use Rattle.letter.proofs.ValidAnswer.{checked-enclosure}
+use Rattle.letter.proofs.Whole.{enclosure-given, enclosure-checked}
 use Rattle.claims.specs.Values.{bits}
 use Rattle.claims.specs.Demand3.{ProcedureIsWelzls, AcceptedDescription, Answers, worked, WorkedOut, Demand3}
 use Rattle.claims.proofs.Records.{written, in-front, filled}
@@ -89,17 +91,20 @@ procedure-welzls l e h = subst (ProcedureIsWelzls l) (sym (a .answer)) (record {
 
 recorded : (l : List ℤ) (e : Enclosure) → encloseOf l ≡ given e → (b : List ℕ) → recordLength ≤ length b
     → WorkedOut l (take recordLength (bufferAfter (e .disk) (e .support) b))
-recorded l e h b k = record { answer = e; accepted = h; buffer = b; written = written (e .disk) (e .support) b (valid-enclosure l e h) k; filled = refl }
+recorded l e h b k = record { answer = e; accepted = h; buffer = b; written = written (e .disk) (e .support) b (checked-enclosure l e h) k; filled = refl }
 
 worked-bytes : {l : List ℤ} {bs : List ℕ} (w : WorkedOut l bs) → bs ≡ recordBytes (w .answer .disk) (w .answer .support)
 worked-bytes w = w .filled ∙ filled (w .answer .disk) (w .answer .support) (w .buffer) (w .written)
+
+valid-worked : {l : List ℤ} {bs : List ℕ} (w : WorkedOut l bs) → valid (w .answer .disk) (w .answer .support) ≡ true
+valid-worked {l} w = passed (w .answer .disk) (w .answer .support) (checked-enclosure l (w .answer) (w .accepted)) .0
 
 module _ {l m : List ℤ} {bs cs : List ℕ} (w : WorkedOut l bs) (v : WorkedOut m cs) {d c : Disk} {S R : List Point}
     (d-is : d ≡ w .answer .disk) (c-is : c ≡ v .answer .disk) (S-is : S ≡ w .answer .support) (R-is : R ≡ v .answer .support) where
   equal-answers : bs ≡ cs → (d ≡ c) × (S ≡ R)
   equal-answers e =
       let same = record-injective (w .answer .disk) (v .answer .disk) (w .answer .support) (v .answer .support)
-      (valid-enclosure l (w .answer) (w .accepted)) (valid-enclosure m (v .answer) (v .accepted)) (sym (worked-bytes w) ∙ e ∙ worked-bytes v) in
+      (valid-worked w) (valid-worked v) (sym (worked-bytes w) ∙ e ∙ worked-bytes v) in
       (d-is ∙ same .0 ∙ sym c-is, S-is ∙ same .1 ∙ sym R-is)
 
   equal-bytes : (d ≡ c) × (S ≡ R) → bs ≡ cs
@@ -120,21 +125,21 @@ module _ {t : List ℕ} (a : AcceptedDescription t) (l : List ℤ) (b : List ℕ
   encloses : enclosureIn t l ≡ given (enclosure (named t))
   encloses = enclosure-given t l (a .count) loads
 
-  valid-named : valid (diskOf (named t)) (firstSupport (named t)) ≡ true
-  valid-named = enclosure-valid t l (enclosure (named t)) encloses
+  checked-named : checkOf (diskOf (named t)) (firstSupport (named t)) ≡ given tt
+  checked-named = enclosure-checked t l (enclosure (named t)) encloses
 
   writes : writeOf (diskOf (named t)) (firstSupport (named t)) b ≡ given tt
-  writes = written (diskOf (named t)) (firstSupport (named t)) b valid-named room
+  writes = written (diskOf (named t)) (firstSupport (named t)) b checked-named room
 
   reaches : radiusOf (diskOf (named t)) (firstSupport (named t)) ≡ given (wholeRadius (diskOf (named t)))
-  reaches = rw valid-named
+  reaches = rw checked-named
 
   shows : previewOf (diskOf (named t)) (firstSupport (named t)) ≡ given (floats (diskOf (named t)) (wholeRadius (diskOf (named t))))
-  shows = rw valid-named
+  shows = rw checked-named
 
   pub worked-is : worked t l b ≡ given (answers (diskOf (named t)) (firstSupport (named t)))
   unfolding worked
-  worked-is = rw (encloses, reaches, shows, writes, in-front (diskOf (named t)) (firstSupport (named t)) b valid-named)
+  worked-is = rw (encloses, reaches, shows, writes, in-front (diskOf (named t)) (firstSupport (named t)) b checked-named)
 
 same-answers : (P Q : List Point) → Same P Q → answers (diskOf P) (firstSupport P) ≡ answers (diskOf Q) (firstSupport Q)
 same-answers P Q s = ap₂ answers (disk-same P Q s) (first-support-same P Q s)

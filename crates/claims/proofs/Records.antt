@@ -1,13 +1,13 @@
 -- Records: what the writer gives and leaves.
 --
 --   record-long        : a record is as long as it should be
---   written, in-front, filled : a valid disk and points, in a buffer that is long enough: the writer is done, and the record stands in front
---   written-valid      : what the writer does not refuse is valid, and the buffer long enough
+--   written, in-front, filled : a disk and points that pass the checks, in a buffer that is long enough: the writer is done, and the record stands in front
+--   written-checked    : what the writer does not refuse passes the checks, and the buffer is long enough
 use mathlib.Core.Path.{_≡_, ap, _∙_}
 use mathlib.Core.Bool.{true}
 use mathlib.Core.List.{List, _++_}
 use Prim.Native.Nat.{ℕ, _≤_}
-use borrow.Author.Tests.{le-ltb, ltb-false, not-false}
+use borrow.Author.Tests.{le-ltb, ltb-false}
 use lib.ListN.{length, take, drop}
 use lib.Seq.{take-at}
 use Rattle.answers.specs.Outcome.{Outcome, given}
@@ -16,6 +16,8 @@ use Rattle.geometry.specs.declared.Point.{Point}
 use Rattle.geometry.specs.declared.Disk.{Disk}
 use Rattle.geometry.specs.EmBox.{em}
 use Rattle.validity.specs.Valid.{valid}
+use Rattle.disk_checks.specs.Checks.{checkOf}
+use Rattle.disk_checks.proofs.CheckLaws.{passed}
 use Rattle.record_writer.specs.Layout.{recordLength}
 use Rattle.record_writer.specs.Bytes.{recordBytes}
 use Rattle.record_writer.specs.Writing.{writeOf, leftBy, bufferAfter}
@@ -26,17 +28,14 @@ pub record-long : (d : Disk) (ps : List Point) → valid d ps ≡ true → lengt
 record-long d ps v = recordBytes-length d ps (counted em ps (valid-points em d ps v))
 
 module _ (d : Disk) (ps : List Point) (buf : List ℕ) where
-  pub written : valid d ps ≡ true → recordLength ≤ length buf → writeOf d ps buf ≡ given tt
-  written v h = rw (le-ltb (length buf) recordLength h, v)
+  pub written : checkOf d ps ≡ given tt → recordLength ≤ length buf → writeOf d ps buf ≡ given tt
+  written c h = rw (le-ltb (length buf) recordLength h) c
 
-  pub written-valid : writeOf d ps buf ≡ given tt → (recordLength ≤ length buf) × (valid d ps ≡ true)
-  written-valid e =
-      let eight = not-refused _ 8 e in
-      let seven = not-refused _ 7 (eight .1) in
-      (ltb-false (length buf) recordLength (eight .0), not-false _ (seven .0))
+  pub written-checked : writeOf d ps buf ≡ given tt → (recordLength ≤ length buf) × (checkOf d ps ≡ given tt)
+  written-checked e = let eight = not-refused _ 8 e in (ltb-false (length buf) recordLength (eight .0), eight .1)
 
-  pub in-front : valid d ps ≡ true → take recordLength (recordBytes d ps ++ drop recordLength buf) ≡ recordBytes d ps
-  in-front v = take-at (recordBytes d ps) (drop recordLength buf) recordLength (record-long d ps v)
+  pub in-front : checkOf d ps ≡ given tt → take recordLength (recordBytes d ps ++ drop recordLength buf) ≡ recordBytes d ps
+  in-front c = take-at (recordBytes d ps) (drop recordLength buf) recordLength (record-long d ps (passed d ps c .0))
 
   pub filled : writeOf d ps buf ≡ given tt → take recordLength (bufferAfter d ps buf) ≡ recordBytes d ps
-  filled e = ap (λ (o : Outcome (Unit {0})). take recordLength (leftBy o d ps buf)) e ∙ in-front (written-valid e .1)
+  filled e = ap (λ (o : Outcome (Unit {0})). take recordLength (leftBy o d ps buf)) e ∙ in-front (written-checked e .1)

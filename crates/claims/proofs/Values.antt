@@ -24,7 +24,7 @@ use lib.Ieee.Bits.{ofBits-toBits}
 use lib.Ieee.Fits.{div-fits, ofInt-fits}
 use lib.Ieee.Scale.{finite}
 use Rattle.answers.specs.Outcome.{Outcome, given, refused, andThen}
-use Rattle.answers.proofs.OutcomeLaws.{not-given, given-same, given-by}
+use Rattle.answers.proofs.OutcomeLaws.{not-given, given-same, both-given}
 use Rattle.integers.proofs.Abs.{abs-*}
 use Rattle.integers.proofs.LeastLaws.{least-most}
 use Rattle.integers.specs.Order.{_≼_}
@@ -40,7 +40,9 @@ use Rattle.description.proofs.Loading.{after-given}
 use Rattle.description.proofs.AcceptedTexts.{accepted-count}
 use Rattle.sheet.specs.Sheet.{Place, glyphOf, partOf}
 use Rattle.sheet.proofs.Parts.{given-pair, given-within, given-part}
-use Rattle.validity.specs.Valid.{valid}
+use Rattle.belonging.specs.Belonging.{Belong}
+use Rattle.disk_checks.specs.Checks.{checkOf}
+use Rattle.disk_checks.proofs.CheckLaws.{passed}
 use Rattle.record_writer.specs.Bytes.{recordBytes}
 use Rattle.record_writer.specs.Writing.{leftBy}
 use Rattle.record_reader.specs.Reading.{readOf}
@@ -54,10 +56,10 @@ use Rattle.preview.proofs.Exact.{preview-exact}
 use Rattle.preview.proofs.Finite.{has-finite, round-finite}
 use Rattle.rules.specs.Row.{AllKept, GoesBy}
 use Rattle.rules.specs.Rules.{Bytes, loaderRow, sheetRow, Recordable}
-use Rattle.claims.proofs.Records.{record-long, written-valid}
+use Rattle.claims.proofs.Records.{record-long, written-checked}
 use Rattle.claims.specs.Values.{glyphBytes, IsPart, LeastRadius, PreviewIsRight, bits, shownBy, Values}
 use Rattle.rules.proofs.RowLaws.{row-through}
-use Rattle.rules.proofs.Recordables.{valid-recordable, recordable-valid}
+use Rattle.rules.proofs.Recordables.{recordable-valid, checked-rules, rules-checked}
 use Rattle.rules.proofs.Calls as calls
 
 -- ---- a glyph
@@ -120,12 +122,12 @@ radius-least d h = let l = radius-is-least d h in record {
 pub least-same : (d : Disk) (r q : ℕ) → LeastRadius d r → LeastRadius d q → r ≡ q
 least-same d r q a b = le-antisymm (a .least q (b .clears)) (b .least r (a .clears))
 
-radius : (d : Disk) (ps : List Point) (r : ℕ) → (radiusOf d ps ≡ given r) ↔ (Recordable d ps × LeastRadius d r)
+radius : (d : Disk) (ps : List Point) (r : ℕ) → (radiusOf d ps ≡ given r) ↔ (Recordable d ps × Belong d ps × LeastRadius d r)
 radius d ps r = (
-  λ e. let g = given-by (valid d ps) 7 r (wholeRadius d) (sym e) in
-      let k = valid-recordable d ps (g .0) in
-      (k, subst (LeastRadius d) (sym (g .1)) (radius-least d (k .e-some))),
-  λ h. rw (recordable-valid d ps (h .0)) (ap given (least-same d (wholeRadius d) r (radius-least d (h .0 .e-some)) (h .1))),
+  λ e. let g = both-given (checkOf d ps) _ r e in
+      let k = checked-rules d ps (g .1 .0) in
+      (k .0, k .1, subst (LeastRadius d) (given-same (g .1 .1)) (radius-least d (k .0 .e-some))),
+  λ h. rw (rules-checked d ps (h .0) (h .1)) (ap given (least-same d (wholeRadius d) r (radius-least d (h .0 .e-some)) (h .2))),
 )
 
 -- ---- the preview
@@ -180,12 +182,12 @@ module _ (d : Disk) (ps : List Point) (h : Recordable d ps) where
         radius = (ap (λ (w : ℕ). ofInt binary64 (pos w)) same ∙ sym (r .radius-converted)) i;
       }
 
-preview : (d : Disk) (ps : List Point) (p : Preview) → (previewOf d ps ≡ given p) ↔ (Recordable d ps × PreviewIsRight d p)
+preview : (d : Disk) (ps : List Point) (p : Preview) → (previewOf d ps ≡ given p) ↔ (Recordable d ps × Belong d ps × PreviewIsRight d p)
 preview d ps p = (
-  λ e. let g = given-by (valid d ps) 7 p (floats d (wholeRadius d)) (sym e) in
-      let k = valid-recordable d ps (g .0) in
-      (k, subst (PreviewIsRight d) (sym (g .1)) (right d ps k)),
-  λ h. rw (recordable-valid d ps (h .0)) (ap given (right-same d ps (h .0) p (h .1))),
+  λ e. let g = both-given (checkOf d ps) _ p e in
+      let k = checked-rules d ps (g .1 .0) in
+      (k .0, k .1, subst (PreviewIsRight d) (given-same (g .1 .1)) (right d ps (k .0))),
+  λ h. rw (rules-checked d ps (h .0) (h .1)) (ap given (right-same d ps (h .0) p (h .2))),
 )
 
 -- ---- bits
@@ -195,9 +197,9 @@ values p = p .x ∷ p .y ∷ p .radius ∷ []
 
 bits-back : (d : Disk) (ps : List Point) (p : Preview) → previewOf d ps ≡ given p → shownBy (bits p) ≡ values p
 bits-back d ps p e =
-    let g = given-by (valid d ps) 7 p (floats d (wholeRadius d)) (sym e) in
+    let g = both-given (checkOf d ps) _ p e in
     let n = ofInt binary64 (pos (d .e)) in
-    subst (λ (q : Preview). shownBy (bits q) ≡ values q) (sym (g .1))
+    subst (λ (q : Preview). shownBy (bits q) ≡ values q) (given-same (g .1 .1))
     (λ i. ofBits-toBits binary64 (quotient (d .x) (d .e)) (div-fits binary64 (ofInt binary64 (d .x)) n) i
     ∷ ofBits-toBits binary64 (quotient (d .y) (d .e)) (div-fits binary64 (ofInt binary64 (d .y)) n) i
     ∷ ofBits-toBits binary64 (ofInt binary64 (pos (wholeRadius d))) (ofInt-fits binary64 (pos (wholeRadius d))) i
@@ -223,10 +225,11 @@ loader-list t l n e =
     after-given t l n e
     ∙ ap (λ (k : ℕ). flat (named t) ++ drop k l) (length-flat (named t) ∙ ap (λ (k : ℕ). 2 * k) (sym (accepted-count t l n e)))
 
-reader : (bs : List ℕ) → Bytes bs → (d : Disk) (ps : List Point) → (readOf bs ≡ given (d, ps)) ↔ (Recordable d ps × (bs ≡ recordBytes d ps))
+reader : (bs : List ℕ) → Bytes bs → (d : Disk) (ps : List Point)
+    → (readOf bs ≡ given (d, ps)) ↔ (Recordable d ps × Belong d ps × (bs ≡ recordBytes d ps))
 reader bs bytes d ps = (
-  λ e. let w = written-again bs bytes d ps e in (valid-recordable d ps (w .0), sym (w .1)),
-  λ h. ap readOf (h .1) ∙ read-written d ps (recordable-valid d ps (h .0)),
+  λ e. let w = written-again bs bytes d ps e in let k = checked-rules d ps (w .0) in (k .0, k .1, sym (w .1)),
+  λ h. ap readOf (h .2) ∙ read-written d ps (rules-checked d ps (h .0) (h .1)),
 )
 
 pub all-values : Values
@@ -234,7 +237,7 @@ all-values = record {
   loader = loader;
   loader-list = loader-list;
   reader = reader;
-  writer = λ d ps b e. (record-long d ps (written-valid d ps b e .1), ap (λ (o : Outcome (Unit {0})). leftBy o d ps b) e);
+  writer = λ d ps b e. (record-long d ps (passed d ps (written-checked d ps b e .1) .0), ap (λ (o : Outcome (Unit {0})). leftBy o d ps b) e);
   glyph-refusals = λ s k. after-glyph s k;
   glyph = λ s k bs. (glyph-part s k bs, part-glyph s k bs);
   radius = radius;

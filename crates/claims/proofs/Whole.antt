@@ -27,7 +27,7 @@ use Rattle.disks.specs.Support.{firstSupport}
 use Rattle.description.specs.Description.{loadOf, named}
 use Rattle.description.proofs.AcceptedTexts.{accepted-front}
 use Rattle.engine.specs.Engine.{Enclosure, enclosure, encloseOf}
-use Rattle.validity.specs.Valid.{valid}
+use Rattle.disk_checks.specs.Checks.{checkOf}
 use Rattle.radius.specs.Radius.{radiusOf}
 use Rattle.record_writer.specs.Layout.{recordLength}
 use Rattle.record_writer.specs.Bytes.{recordBytes}
@@ -36,7 +36,7 @@ use Rattle.record_writer.specs.Writing as writing
 use Rattle.preview.specs.declared.Preview.{Preview}
 use Rattle.preview.specs.Preview.{previewOf}
 use Rattle.letter.specs.Letter.{room, enclosureIn, enclosureOf, Letter, letter, letterOf, letterIn, bufferAfter}
-use Rattle.letter.proofs.Whole.{enclosure-given, enclosure-refused, enclosure-valid}
+use Rattle.letter.proofs.Whole.{enclosure-given, enclosure-refused, enclosure-checked}
 use Rattle.rules.specs.Row.{_unless_, GoesBy}
 use Rattle.rules.specs.Rules.{loaderRow}
 use Rattle.rules.proofs.RowLaws.{row-end, row-step, row-through, row-then}
@@ -106,9 +106,9 @@ means t l b a h =
     record {
       smallest = right .smallest;
       first-support = right .first-support;
-      least = all-values .radius d ps (a .radius) .0 (s .reached) .1;
+      least = all-values .radius d ps (a .radius) .0 (s .reached) .2;
       preview = s .preview;
-      preview-right = all-values .preview d ps (s .preview) .0 (s .seen) .1;
+      preview-right = all-values .preview d ps (s .preview) .0 (s .seen) .2;
       preview-bits = s .shown-as;
       record-bytes = s .filled-with ∙ filled d ps b (s .done);
     }
@@ -121,11 +121,11 @@ only t l b a c h m =
     let right = named-right t l _ (s .found) in
     let disk : c .disk-given ≡ d = right .no-other-disk (c .disk-given) (m .smallest) in
     let support : c .support ≡ ps = right .no-other-support (c .support) (m .first-support) in
-    let fine = all-values .radius d ps (a .radius) .0 (s .reached) .0 in
+    let rules = all-values .radius d ps (a .radius) .0 (s .reached) in
     let least = subst (λ (e : Disk). LeastRadius e (c .radius)) disk (m .least) in
-    let radius : c .radius ≡ a .radius = same-given (all-values .radius d ps (c .radius) .1 (fine, least)) (s .reached) in
+    let radius : c .radius ≡ a .radius = same-given (all-values .radius d ps (c .radius) .1 (rules .0, rules .1, least)) (s .reached) in
     let seen = subst (λ (e : Disk). PreviewIsRight e (m .preview)) disk (m .preview-right) in
-    let preview : m .preview ≡ s .preview = same-given (all-values .preview d ps (m .preview) .1 (fine, seen)) (s .seen) in
+    let preview : m .preview ≡ s .preview = same-given (all-values .preview d ps (m .preview) .1 (rules .0, rules .1, seen)) (s .seen) in
     let shown : c .shown ≡ a .shown = m .preview-bits ∙ ap bits preview ∙ sym (s .shown-as) in
     let bytes : c .bytes ≡ a .bytes = m .record-bytes ∙ ap₂ recordBytes disk support ∙ sym (s .filled-with ∙ filled d ps b (s .done)) in
     λ i. record { disk-given = disk i; support = support i; radius = radius i; shown = shown i; bytes = bytes i }
@@ -142,7 +142,7 @@ last false v = refl
 refusal : (t : List ℕ) (l : List ℤ) (b : List ℕ) → GoesBy (loaderRow t l ++ (8 unless (recordLength ≤ length b) ∷ [])) (worked t l b)
 unfolding worked
 refusal t l b = row-then (loaderRow t l) (8 unless (recordLength ≤ length b) ∷ []) _ (enclosureIn t l) (encloses t l) (λ e h.
-    let fine : valid (e .disk) (e .support) ≡ true = enclosure-valid t l e h in
+    let fine : checkOf (e .disk) (e .support) ≡ given tt = enclosure-checked t l e h in
     rw fine
     (subst (GoesBy (8 unless (recordLength ≤ length b) ∷ [])) (sym (last (ltb (length b) recordLength) _))
     (row-step (ltb (length b) recordLength) 8 (λ h k. short b (ltb-true (length b) recordLength h) k) (ltb-false (length b) recordLength) (λ k. row-end _))))

@@ -27,6 +27,7 @@ use Rattle.geometry.specs.declared.Disk.{Disk}
 use Rattle.geometry.specs.Points.{flat}
 use Rattle.description.specs.Description.{named, loadOf, listAfter}
 use Rattle.sheet.specs.Sheet.{pair, glyphOf, partOf}
+use Rattle.belonging.specs.Belonging.{Belong}
 use Rattle.record_writer.specs.Bytes.{recordBytes}
 use Rattle.radius.specs.Radius.{radiusOf}
 use Rattle.record_reader.specs.Reading.{readOf}
@@ -94,15 +95,17 @@ pub record Values : Type 0 where
   pub glyph-refusals : (s : List ℕ) (k : ℕ) → GoesBy (sheetRow s k) (glyphBytes s k)
   pub glyph : (s : List ℕ) (k : ℕ) (bs : List ℕ) → (glyphBytes s k ≡ given bs) ↔ (AllKept (sheetRow s k) × IsPart s k bs)
   -- a record is read as the disk and the points whose record its bytes are
-  pub reader : (bs : List ℕ) → Bytes bs → (d : Disk) (ps : List Point) → (readOf bs ≡ given (d, ps)) ↔ (Recordable d ps × (bs ≡ recordBytes d ps))
+  pub reader :
+      (bs : List ℕ) → Bytes bs → (d : Disk) (ps : List Point)
+      → (readOf bs ≡ given (d, ps)) ↔ (Recordable d ps × Belong d ps × (bs ≡ recordBytes d ps))
   -- "The writer fills the first 44 bytes and leaves the rest": 45 by 02, item 4
   pub writer :
       (d : Disk) (ps : List Point) (b : List ℕ) → writeOf d ps b ≡ given tt
       → (length (recordBytes d ps) ≡ 45) × (bufferAfter d ps b ≡ recordBytes d ps ++ drop 45 b)
   -- "the cutting radius is the least whole R with R²E² greater than S" (02, item 3)
-  pub radius : (d : Disk) (ps : List Point) (r : ℕ) → (radiusOf d ps ≡ given r) ↔ (Recordable d ps × LeastRadius d r)
+  pub radius : (d : Disk) (ps : List Point) (r : ℕ) → (radiusOf d ps ≡ given r) ↔ (Recordable d ps × Belong d ps × LeastRadius d r)
   -- "The preview is three f64 values: .."
-  pub preview : (d : Disk) (ps : List Point) (p : Preview) → (previewOf d ps ≡ given p) ↔ (Recordable d ps × PreviewIsRight d p)
+  pub preview : (d : Disk) (ps : List Point) (p : Preview) → (previewOf d ps ≡ given p) ↔ (Recordable d ps × Belong d ps × PreviewIsRight d p)
   -- the bits are the values': read back they are these
   pub preview-bits : (d : Disk) (ps : List Point) (p : Preview) → previewOf d ps ≡ given p → shownBy (bits p) ≡ p .x ∷ p .y ∷ p .radius ∷ []
   -- so two previews are equal exactly where their bits are

@@ -3,7 +3,7 @@
 --   enclosed-flat      : the engine, given the points of a list alone, refuses none of 1 to 4,096 points in the em box
 --   enclosure-loaded   : loader, then engine, by what the loader gives
 --   enclosure-given, enclosure-refused : of these only the loader refuses
---   enclosure-valid    : the writer takes what they give
+--   enclosure-checked  : the writer takes what they give
 --   letter-short       : a short buffer is refused first
 --   letter-given, letter-refused : in one that is long enough the letter is what loader and engine give, or their refusal
 --   letter-written     : the buffer as the writer leaves it
@@ -27,11 +27,11 @@ use Rattle.description.specs.Description.{named, loadOf, listAfter}
 use Rattle.description.proofs.AcceptedTexts.{accepted-count, accepted-some, accepted-few, accepted-in-box, accepted-front}
 use Rattle.engine.specs.Engine.{Enclosure, enclosure, encloseOf}
 use Rattle.engine.proofs.Checks.{accepted}
-use Rattle.validity.specs.Valid.{valid}
+use Rattle.disk_checks.specs.Checks.{checkOf}
 use Rattle.record_writer.specs.Layout.{recordLength}
 use Rattle.record_writer.specs.Writing as writing
 use Rattle.letter.specs.Letter.{enclosureIn, enclosureOf, letter, letterOf, letterIn, bufferAfter}
-use Rattle.letter.proofs.ValidAnswer.{valid-enclosure}
+use Rattle.letter.proofs.ValidAnswer.{checked-enclosure}
 
 -- ---- the engine, given a list of points
 
@@ -73,11 +73,11 @@ module _ (text : List ℕ) (list : List ℤ) where
       let boxed = members-box (named text) (λ p i. true-test (accepted-in-box text list n loads p i)) in
       enclosure-loaded n loads ∙ ap encloseOf (accepted-front text list n loads) ∙ enclosed-flat (named text) some few boxed
 
-  pub enclosure-valid : (e : Enclosure) → enclosureIn text list ≡ given e → valid (e .disk) (e .support) ≡ true
-  enclosure-valid e h = by-load (loadOf text list) refl
+  pub enclosure-checked : (e : Enclosure) → enclosureIn text list ≡ given e → checkOf (e .disk) (e .support) ≡ given tt
+  enclosure-checked e h = by-load (loadOf text list) refl
     where
-      by-load : (o : Outcome ℕ) → loadOf text list ≡ o → valid (e .disk) (e .support) ≡ true
-      by-load (given n) loads = valid-enclosure (take (2 * n) (listAfter text list)) e (sym (enclosure-loaded n loads) ∙ h)
+      by-load : (o : Outcome ℕ) → loadOf text list ≡ o → checkOf (e .disk) (e .support) ≡ given tt
+      by-load (given n) loads = checked-enclosure (take (2 * n) (listAfter text list)) e (sym (enclosure-loaded n loads) ∙ h)
       by-load (refused k) refuses = absurd (not-given (sym (enclosure-refused k refuses) ∙ h))
 
 -- ---- the letter, by what loader and engine give
@@ -96,4 +96,4 @@ module _ (text buf : List ℕ) where
     letter-refused k h = rw (le-ltb (length buf) recordLength enough, h)
 
     pub letter-written : (e : Enclosure) → enclosureOf text ≡ given e → writing.bufferAfter (e .disk) (e .support) buf ≡ bufferAfter (given (letter e)) buf
-    letter-written e h = rw (le-ltb (length buf) recordLength enough, enclosure-valid text _ e h)
+    letter-written e h = rw (le-ltb (length buf) recordLength enough, enclosure-checked text _ e h)

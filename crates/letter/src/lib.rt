@@ -25,7 +25,7 @@ pub fn enclose(text: &[u8]) -> Enclosed
 }
 
 // Works a description out and writes its record at the front of buf. The writer takes whatever the engine gives, so its answer is not
-// looked at (proofs/Whole: `enclosure-valid`).
+// looked at (proofs/Whole: `enclosure-checked`).
 pub fn work(text: &[u8], buf: &mut [u8]) -> Worked
     ensures { λ r. ⌜ outcome r ≡ testsIn (letterIn (now (text .entry)) (now (buf .entry))) ⌝ }
     ensures { λ _. ⌜ now (buf .exit) ≡ bufferAfter (letterIn (now (text .entry)) (now (buf .entry))) (now (buf .entry)) ⌝ }

@@ -8,15 +8,15 @@
 --
 -- Floats are the library's account of IEEE 754. That no conversion loses anything, and that a quotient is the fraction itself, rounded
 -- once, is claimed in claims/specs/Values.antt.
-use mathlib.Core.Bool.{Bool, true, false, not}
+use mathlib.Core.Bool.{Bool, true, false}
 use mathlib.Core.List.{List}
 use Prim.Native.Nat.{ℕ}
 use lib.IntN.{ℤ, pos, negsuc}
 use lib.Ieee.{Float, binary64, div, ofInt}
-use Rattle.answers.specs.Outcome.{Outcome, given, refused, numberOf, refuseIf}
+use Rattle.answers.specs.Outcome.{Outcome, given, refused, numberOf, andThen}
 use Rattle.geometry.specs.declared.Point.{Point}
 use Rattle.geometry.specs.declared.Disk.{Disk}
-use Rattle.validity.specs.Valid.{valid}
+use Rattle.disk_checks.specs.Checks.{checkOf}
 use Rattle.radius.specs.Radius.{wholeRadius}
 use Rattle.preview.specs.declared.Preview.{Preview}
 use Rattle.preview.specs.declared.Shown.{Shown}
@@ -33,7 +33,7 @@ abbrev pub floats : Disk → ℕ → Preview
 floats d r = record { x = quotient (d .x) (d .e); y = quotient (d .y) (d .e); radius = ofInt binary64 (pos r) }
 
 abbrev pub previewOf : Disk → List Point → Outcome Preview
-previewOf d ps = refuseIf (not (valid d ps)) 7 (given (floats d (wholeRadius d)))
+previewOf d ps = andThen (checkOf d ps) (λ done. given (floats d (wholeRadius d)))
 
 abbrev pub outcome : Shown → Outcome Preview
 outcome (At p) = given p

@@ -3,18 +3,18 @@
 --   clears d r      == the circle of radius r about d's centre keeps clear of d and of every point in it: r²E² is greater than S
 --   wholeRadius d   == the least whole number whose circle does
 --   maxRadius       == one whose circle does wherever S/E² keeps to its limit: 707² is not above that limit, 708² is
---   radiusOf d ps   == what the call answers: the refusal due first, or the radius
+--   radiusOf d ps   == what the call answers: the refusal due first of the disk and its points, or the radius
 --   outcome r       == document 01's number and value of each answer
 --
 -- Where E is at least 1 the circle of radius S + 1 keeps clear, so the search of `least` need not go further; proofs/RadiusLaws says so.
-use mathlib.Core.Bool.{Bool, not}
+use mathlib.Core.Bool.{Bool}
 use mathlib.Core.List.{List}
 use Prim.Native.Nat.{ℕ, suc, _*_}
 use lib.Dec.{ltb}
-use Rattle.answers.specs.Outcome.{Outcome, given, refused, numberOf, refuseIf}
+use Rattle.answers.specs.Outcome.{Outcome, given, refused, numberOf, andThen}
 use Rattle.geometry.specs.declared.Point.{Point}
 use Rattle.geometry.specs.declared.Disk.{Disk}
-use Rattle.validity.specs.Valid.{valid}
+use Rattle.disk_checks.specs.Checks.{checkOf}
 use Rattle.integers.specs.Least.{least}
 use Rattle.radius.specs.declared.Radius.{Radius}
 use Rattle.radius.specs.declared.Radius.the-variants.{Whole, Refused}
@@ -29,7 +29,7 @@ abbrev pub maxRadius : ℕ
 maxRadius = 708
 
 abbrev pub radiusOf : Disk → List Point → Outcome ℕ
-radiusOf d ps = refuseIf (not (valid d ps)) 7 (given (wholeRadius d))
+radiusOf d ps = andThen (checkOf d ps) (λ done. given (wholeRadius d))
 
 abbrev pub outcome : Radius → Outcome ℕ
 outcome (Whole r) = given r

@@ -6,6 +6,7 @@ ghost use Rattle.geometry.specs.Plane.{members};
 ghost use Rattle.validity.specs.Valid.{validDisk};
 ghost use Rattle.radius.specs.Radius.{clears, wholeRadius, maxRadius, radiusOf, outcome};
 use answers::Refusal;
+use disk_checks::Checked;
 use geometry::Disk;
 use geometry::SupportSet;
 
@@ -48,8 +49,8 @@ fn least_clear(d: Disk) -> u64
 pub fn whole_radius(d: Disk, t: SupportSet) -> Radius
     ensures { λ r. ⌜ outcome r ≡ radiusOf d (members t) ⌝ }
 {
-    if validity::is_valid(d, t) {
-        return Radius::Whole(least_clear(d));
+    match disk_checks::check(d, t) {
+        Checked::Passed => Radius::Whole(least_clear(d)),
+        Checked::Refused(r) => Radius::Refused(r),
     }
-    Radius::Refused(Refusal::BadRecord)
 }

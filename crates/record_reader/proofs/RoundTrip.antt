@@ -1,10 +1,13 @@
 -- Records read back (demand 2), and bytes with another count (02, item 4).
 --
---   read-written      : the record of a valid disk and its points is read as them
---   read-miscounted   : its bytes with another count are refused
+--   Read, read-fields : in the record of a valid disk and its points stand these, and their count
+--   read-held         : the record of a valid disk and its points is answered by the checks of these
+--   read-written      : where they pass them, it is read as them
+--   read-miscounted   : the bytes of a valid disk and its points with another count are refused
 --   count-byte        : the count is the last byte
 --   Accepted, accepted : what the reader accepts has a record's length, and in it stand the disk, the points and their count
---   written-again     : a record that the reader accepts holds a valid disk and points, and is the record of these
+--   rewritten         : bytes of a record's length with the right count are the record of what stands in them
+--   written-again     : a record that the reader accepts holds a disk and points that pass the checks, and is the record of these
 --   record-injective  : valid disks and points with equal records are equal
 use mathlib.Core.Path.{_≡_, refl, sym, ap, ap₂, _∙_}
 use mathlib.Core.Bool.{Bool, true, false, not, true≢false, _&&_}
@@ -16,7 +19,7 @@ use borrow.Author.Tests.{eq-eqb, ne-eqb, eqb-true, leb-true, not-false}
 use lib.Dec.{eqb, leb}
 use lib.ListN.{length, getD}
 use Rattle.answers.specs.Outcome.{given, refused, refuseIf}
-use Rattle.answers.proofs.OutcomeLaws.{given-same, not-refused}
+use Rattle.answers.proofs.OutcomeLaws.{given-same, not-refused, both-given}
 use Rattle.integers.proofs.Tests.{first, rest}
 use Rattle.big_endian.specs.Fields.{bytesOf, get}
 use Rattle.geometry.specs.declared.Point.{Point}
@@ -24,10 +27,12 @@ use Rattle.geometry.specs.declared.Disk.{Disk}
 use Rattle.geometry.specs.EmBox.{em, allInBox, inEmBox, allInEmBox}
 use Rattle.geometry.specs.Order.{before}
 use Rattle.validity.specs.Valid.{oneToThree, valid}
+use Rattle.disk_checks.specs.Checks.{checkOf}
+use Rattle.disk_checks.proofs.CheckLaws.{passed}
 use Rattle.point_lists.specs.Rising.{rising}
 use Rattle.record_writer.specs.Layout.{recordLength, firstAt, secondAt, thirdAt, countWidth, countAt}
 use Rattle.record_writer.specs.Bytes.{diskBytes, pointsBytes, madeThree, recordBytes}
-use Rattle.record_reader.specs.Reading.{diskIn, pointIn, meant, pointsIn, countIn, readOf}
+use Rattle.record_reader.specs.Reading.{diskIn, pointIn, meant, pointsIn, countIn, heldOf, readOf}
 use Rattle.validity.proofs.ValidLaws.{DiskBounds, limits, valid-disk, valid-points, counted, rises, boxed}
 use Rattle.record_writer.proofs.ByteLaws.{not-four, recordBytes-length}
 use Rattle.record_reader.proofs.RecordFields.{TwoBytes, small, ReadsAs, fields-read, fields-again}
@@ -39,10 +44,10 @@ use Rattle.record_reader.proofs.Meaning.{meant-one, meant-two, meant-th
 abbrev counting : Disk → List Point → ℕ → List ℕ
 counting d ps n = diskBytes d ++ pointsBytes (madeThree ps) ++ bytesOf countWidth n
 
-record Read (bs : List ℕ) (d : Disk) (ps : List Point) (n : ℕ) : Type 0 where
-  disk : diskIn bs ≡ d
-  points : pointsIn bs ≡ ps
-  count : countIn bs ≡ n
+pub record Read (bs : List ℕ) (d : Disk) (ps : List Point) (n : ℕ) : Type 0 where
+  pub disk : diskIn bs ≡ d
+  pub points : pointsIn bs ≡ ps
+  pub count : countIn bs ≡ n
 
 points-read : {bs : List ℕ} {d : Disk} {a b c : Point} {n : ℕ} → ReadsAs bs d a b c n → pointsIn bs ≡ meant a b c
 points-read r = λ i. meant (r .first i) (r .second i) (r .third i)
@@ -99,18 +104,9 @@ module _ (d : Disk) (ps : List Point) (h : valid d ps ≡ true) where
       let v = valid-points em d ps h in
       read-points d (limits em d (valid-disk em d ps h)) n byte ps some (rises em ps v) (boxed em ps v)
 
-  pub read-written : readOf (recordBytes d ps) ≡ given (d, ps)
+  pub read-fields : Read (recordBytes d ps) d ps (length ps)
   unfolding recordBytes
-  read-written =
-      let bs = counting d ps (length ps) in
-      let r = read-counting (length ps) (few ps some) in
-      let agrees : countIn bs ≡ length (pointsIn bs) = r .count ∙ ap length (sym (r .points)) in
-      rw (
-        eq-eqb (length bs) recordLength (recordBytes-length d ps some),
-        eq-eqb (countIn bs) (length (pointsIn bs)) agrees,
-        ap₂ valid (r .disk) (r .points) ∙ h,
-      )
-      (ap₂ (λ (c : Disk) (qs : List Point). given (c, qs)) (r .disk) (r .points))
+  read-fields = read-counting (length ps) (few ps some)
 
   pub read-miscounted : (n : ℕ) → n < 256 → (n ≡ length ps → ⊥) → readOf (diskBytes d ++ pointsBytes (madeThree ps) ++ (n ∷ [])) ≡ refused 7
   read-miscounted n byte other =
@@ -120,6 +116,17 @@ module _ (d : Disk) (ps : List Point) (h : valid d ps ≡ true) where
       let refuses : readOf bs ≡ refused 7 =
       rw (ne-eqb (countIn bs) (length (pointsIn bs)) apart) (second-fails (not (eqb (length bs) recordLength)) 7) in
       ap (λ (last : List ℕ). readOf (diskBytes d ++ pointsBytes (madeThree ps) ++ last)) (sym (one-byte n byte)) ∙ refuses
+
+pub read-held : (d : Disk) (ps : List Point) → valid d ps ≡ true → readOf (recordBytes d ps) ≡ heldOf d ps
+read-held d ps v =
+    let bs = recordBytes d ps in
+    let r = read-fields d ps v in
+    let agrees : countIn bs ≡ length (pointsIn bs) = r .count ∙ ap length (sym (r .points)) in
+    rw (eq-eqb (length bs) recordLength (recordBytes-length d ps (some d ps v)), eq-eqb (countIn bs) (length (pointsIn bs)) agrees)
+    (ap₂ heldOf (r .disk) (r .points))
+
+pub read-written : (d : Disk) (ps : List Point) → checkOf d ps ≡ given tt → readOf (recordBytes d ps) ≡ given (d, ps)
+read-written d ps h = read-held d ps (passed d ps h .0) ∙ rw h
 
 -- ---- bytes that the reader accepts
 
@@ -132,7 +139,7 @@ pub record Accepted (bs : List ℕ) (d : Disk) (ps : List Point) : Type 0 where
   pub disk : diskIn bs ≡ d
   pub points : pointsIn bs ≡ ps
   pub count : countIn bs ≡ length ps
-  pub fine : valid d ps ≡ true
+  pub fine : checkOf d ps ≡ given tt
 
 -- two numbers that a check found equal
 equal : (a b : ℕ) → not (eqb a b) ≡ false → a ≡ b
@@ -142,8 +149,8 @@ pub accepted : (bs : List ℕ) (d : Disk) (ps : List Point) → readOf bs ≡ gi
 accepted bs d ps h =
     let long = not-refused (not (eqb (length bs) recordLength)) 7 h in
     let agree = not-refused (not (eqb (countIn bs) (length (pointsIn bs)))) 7 (long .1) in
-    let ok = not-refused (not (valid (diskIn bs) (pointsIn bs))) 7 (agree .1) in
-    let same = given-same (ok .1) in
+    let ok = both-given (checkOf (diskIn bs) (pointsIn bs)) _ (d, ps) (agree .1) in
+    let same = given-same (ok .1 .1) in
     let disk : diskIn bs ≡ d = ap (λ (r : Disk × List Point). r .0) same in
     let points : pointsIn bs ≡ ps = ap (λ (r : Disk × List Point). r .1) same in
     record {
@@ -151,19 +158,19 @@ accepted bs d ps h =
       disk = disk;
       points = points;
       count = equal (countIn bs) (length (pointsIn bs)) (agree .0) ∙ ap length points;
-      fine = sym (ap₂ valid disk points) ∙ not-false (valid (diskIn bs) (pointsIn bs)) (ok .0);
+      fine = sym (ap₂ checkOf disk points) ∙ ok .1 .0;
     }
 
 -- the bytes that the reader is given are those of a lent slice, each below 256
 module _ (bs : List ℕ) (bytes : (k : ℕ) → getD bs k 0 < 256) where
-  rewritten : length bs ≡ recordLength → countIn bs ≡ length (pointsIn bs) → recordBytes (diskIn bs) (pointsIn bs) ≡ bs
+  pub rewritten : length bs ≡ recordLength → countIn bs ≡ length (pointsIn bs) → recordBytes (diskIn bs) (pointsIn bs) ≡ bs
   unfolding recordBytes
   rewritten e agrees =
       ap₂ (λ (qs : List Point) (n : ℕ). diskBytes (diskIn bs) ++ pointsBytes qs ++ bytesOf countWidth n)
       (made-meant (pointIn firstAt bs) (pointIn secondAt bs) (pointIn thirdAt bs)) (sym agrees)
       ∙ fields-again bs bytes e
 
-  pub written-again : (d : Disk) (ps : List Point) → readOf bs ≡ given (d, ps) → (valid d ps ≡ true) × (recordBytes d ps ≡ bs)
+  pub written-again : (d : Disk) (ps : List Point) → readOf bs ≡ given (d, ps) → (checkOf d ps ≡ given tt) × (recordBytes d ps ≡ bs)
   written-again d ps h =
       let a = accepted bs d ps h in
       (a .fine, sym (ap₂ recordBytes (a .disk) (a .points)) ∙ rewritten (a .long) (a .count ∙ ap length (sym (a .points))))
@@ -173,5 +180,6 @@ module _ (bs : List ℕ) (bytes : (k : ℕ) → getD bs k 0 < 256) where
 pub record-injective : (d e : Disk) (ps qs : List Point) → valid d ps ≡ true → valid e qs ≡ true
     → recordBytes d ps ≡ recordBytes e qs → (d ≡ e) × (ps ≡ qs)
 record-injective d e ps qs h k same =
-    let read = given-same (sym (read-written d ps h) ∙ ap readOf same ∙ read-written e qs k) in
-    (ap (λ (r : Disk × List Point). r .0) read, ap (λ (r : Disk × List Point). r .1) read)
+    let r = read-fields d ps h in
+    let q = read-fields e qs k in
+    (sym (r .disk) ∙ ap diskIn same ∙ q .disk, sym (r .points) ∙ ap pointsIn same ∙ q .points)

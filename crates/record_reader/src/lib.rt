@@ -5,8 +5,9 @@ ghost use lib.Dec.{eqb};
 ghost use lib.ListN.{length};
 ghost use Rattle.geometry.specs.Plane.{members};
 ghost use Rattle.record_writer.specs.Layout.{coordinateWidth, pointWidth, firstAt, recordLength};
-ghost use Rattle.record_reader.specs.Reading.{signedAt, diskIn, pointIn, meant, pointsIn, countIn, readOf, outcome};
+ghost use Rattle.record_reader.specs.Reading.{signedAt, diskIn, pointIn, meant, pointsIn, countIn, heldOf, readOf, outcome};
 use answers::Refusal;
+use disk_checks::Checked;
 use geometry::Disk;
 use geometry::Point;
 use geometry::SupportSet;
@@ -88,6 +89,16 @@ fn count_agrees(bytes: &[u8], t: SupportSet) -> bool
     written == meant
 }
 
+// The disk and the support set that were read, where they pass the checks.
+fn checked(d: Disk, t: SupportSet) -> Record
+    ensures { λ r. ⌜ outcome r ≡ heldOf d (members t) ⌝ }
+{
+    match disk_checks::check(d, t) {
+        Checked::Passed => Record::Read(d, t),
+        Checked::Refused(r) => Record::Refused(r),
+    }
+}
+
 // The disk and the support set whose record the bytes are.
 pub fn read_record(bytes: &[u8]) -> Record
     ensures { λ r. ⌜ outcome r ≡ readOf (now (bytes .entry)) ⌝ }
@@ -96,9 +107,7 @@ pub fn read_record(bytes: &[u8]) -> Record
         let d = get_disk(bytes);
         let t = get_points(bytes);
         if count_agrees(bytes, t) {
-            if validity::is_valid(d, t) {
-                return Record::Read(d, t);
-            }
+            return checked(d, t);
         }
     }
     Record::Refused(Refusal::BadRecord)

@@ -10,6 +10,7 @@ ghost use Rattle.record_writer.specs.Layout.{xAt, firstAt, pointWidth, c
 ghost use Rattle.record_writer.specs.Bytes.{diskBytes, pointBytes, pointsBytes, madeThree, countBytes};
 ghost use Rattle.record_writer.specs.Writing.{writeOf, bufferAfter, outcome};
 use answers::Refusal;
+use disk_checks::Checked;
 use geometry::Disk;
 use geometry::Point;
 use geometry::SupportSet;
@@ -102,10 +103,12 @@ pub fn write_record(d: Disk, t: SupportSet, buf: &mut [u8]) -> Written
     if buf.len() < RECORD_LENGTH {
         return Written::Refused(Refusal::NoRoom);
     }
-    if validity::is_valid(d, t) {
-        put_disk(buf, d);
-        put_points(buf, t);
-        return Written::Done;
+    match disk_checks::check(d, t) {
+        Checked::Passed => {
+            put_disk(buf, d);
+            put_points(buf, t);
+            Written::Done
+        }
+        Checked::Refused(r) => Written::Refused(r),
     }
-    Written::Refused(Refusal::BadRecord)
 }

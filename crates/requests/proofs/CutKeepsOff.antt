@@ -26,11 +26,11 @@ use Rattle.point_lists.specs.Sets.{In}
 use Rattle.disks.specs.Smallest.{RationalDisk, Fits, Smallest}
 use Rattle.disks.proofs.StrongSmallest.{some-positive}
 use Rattle.engine.specs.Engine.{Enclosure, encloseOf}
-use Rattle.letter.proofs.ValidAnswer.{valid-enclosure}
+use Rattle.letter.proofs.ValidAnswer.{checked-enclosure}
 use Rattle.radius.specs.Radius.{radiusOf}
 use Rattle.preview.specs.declared.Preview.{Preview}
 use Rattle.preview.specs.Preview.{previewOf}
-use Rattle.rules.proofs.Recordables.{valid-recordable}
+use Rattle.rules.proofs.Recordables.{checked-rules}
 use Rattle.claims.specs.Values.{LeastRadius}
 use Rattle.requests.specs.CutKeepsOff.{Off, LeastOff, CutKeepsOff}
 use Rattle.claims.proofs.Demand2.{engine-right}
@@ -91,20 +91,21 @@ off-rule {P} {d} r m k = record {
 list : (l : List ℤ) (e : Enclosure) → encloseOf l ≡ given e → (r : ℕ) → (radiusOf (e .disk) (e .support) ≡ given r) ↔ LeastOff (points l) (e .disk) r
 list l e h r =
     let smallest = engine-right l e h .smallest in
+    let rules = checked-rules (e .disk) (e .support) (checked-enclosure l e h) in
     let rule = all-values .radius (e .disk) (e .support) r in (
-      λ g. rule-off r smallest (rule .0 g .1),
-      λ k. rule .1 (valid-recordable (e .disk) (e .support) (valid-enclosure l e h), off-rule r smallest k),
+      λ g. rule-off r smallest (rule .0 g .2),
+      λ k. rule .1 (rules .0, rules .1, off-rule r smallest k),
     )
 
 preview : (d : Disk) (ps : List Point) (r : ℕ) (p : Preview) → radiusOf d ps ≡ given r → previewOf d ps ≡ given p → HasValue (p .radius) false r 1
 preview d ps r p g h =
-    let right = all-values .preview d ps p .0 h .1 in
+    let right = all-values .preview d ps p .0 h .2 in
     subst (λ (n : ℕ). HasValue (p .radius) false n 1)
-    (least-same d (right .whole) r (right .is-least) (all-values .radius d ps r .0 g .1)) (right .radius-exact)
+    (least-same d (right .whole) r (right .is-least) (all-values .radius d ps r .0 g .2)) (right .radius-exact)
 
 pub cut-keeps-off : CutKeepsOff
 cut-keeps-off = record {
-  held = λ d ps r g. off-held d r (all-values .radius d ps r .0 g .1 .clears);
+  held = λ d ps r g. off-held d r (all-values .radius d ps r .0 g .2 .clears);
   list = list;
   description = λ t l b a h. let m = whole-way .means t l b a h in rule-off (a .radius) (m .smallest) (m .least);
   preview = preview;

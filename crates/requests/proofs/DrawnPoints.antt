@@ -37,7 +37,7 @@ use Rattle.drawn_points.specs.declared.DrawnPoint.{DrawnPoint}
 use Rattle.drawn_points.specs.declared.DrawnPoint.the-variants.{Whole, Drawn}
 use Rattle.drawn_points.specs.Appending.{placeOf, takenOf, appendOf, listAfter, putBehind}
 use Rattle.drawn_points.proofs.Behind.{taken-place, has-room, put-behind, front-behind}
-use Rattle.validity.specs.Valid.{valid}
+use Rattle.disk_checks.specs.Checks.{checkOf}
 use Rattle.radius.specs.Radius.{radiusOf}
 use Rattle.preview.specs.declared.Preview.{Preview}
 use Rattle.preview.specs.Preview.{previewOf}
@@ -106,7 +106,7 @@ answers-same : (e : Enclosure) (b c : List ℕ) → (recordLength ≤ length b) 
 answers-same e b c r =
     let d = e .disk in
     let ps = e .support in
-    let room = ap (λ (t : Bool). refuseIf t 8 (refuseIf (not (valid d ps)) 7 (given tt))) (same-room recordLength (length b) (length c) r) in
+    let room = ap (λ (t : Bool). refuseIf t 8 (checkOf d ps)) (same-room recordLength (length b) (length c) r) in
     ap (λ (k : ℕ → Preview → Outcome Answers). andThen (radiusOf d ps) (λ r. andThen (previewOf d ps) (λ p. k r p)))
     (λ i r p. made-same d ps (λ bs. record { disk-given = d; support = ps; radius = r; shown = bits p; bytes = bs }) b c room i)
 

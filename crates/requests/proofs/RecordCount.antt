@@ -19,15 +19,15 @@ use Rattle.record_reader.proofs.RoundTrip.{read-written, read-miscounted, count
 use Rattle.letter.specs.Letter.{Letter}
 use Rattle.letter.specs.Letter as letter
 use Rattle.letter.proofs.Whole.{letter-short}
-use Rattle.rules.proofs.Recordables.{valid-recordable, recordable-valid}
+use Rattle.rules.proofs.Recordables.{recordable-valid, checked-rules, rules-checked}
 use Rattle.requests.specs.RecordCount.{Counted, RecordCount}
-use Rattle.claims.proofs.Records.{written, written-valid, filled}
+use Rattle.claims.proofs.Records.{written, written-checked, filled}
 use Rattle.claims.proofs.Whole.{steps}
 
 read-counted : (bs : List ℕ) (d : Disk) (ps : List Point) → readOf bs ≡ given (d, ps) → Counted bs ps
 read-counted bs d ps h =
     let a = accepted bs d ps h in
-    let r = valid-recordable d ps (a .fine) in
+    let r = checked-rules d ps (a .fine) .0 in
     record { long = a .long; last = sym (count-byte bs) ∙ a .count; some = r .some; most = r .most }
 
 meant : (bs : List ℕ) (d : Disk) (ps : List Point) → readOf bs ≡ given (d, ps)
@@ -41,7 +41,7 @@ meant bs d ps h =
 
 written-counted : (d : Disk) (ps : List Point) (b : List ℕ) → writeOf d ps b ≡ given tt → Counted (take 45 (bufferAfter d ps b)) ps
 written-counted d ps b e =
-    let v = written-valid d ps b e .1 in
+    let v = written-checked d ps b e .1 in
     subst (λ (bs : List ℕ). Counted bs ps) (sym (filled d ps b e)) (read-counted _ d ps (read-written d ps v))
 
 pub record-count : RecordCount
@@ -51,7 +51,7 @@ record-count = record {
   meant = meant;
   disagrees = λ d ps r. read-miscounted d ps (recordable-valid d ps r);
   other-length = λ bs h. rw (ne-eqb (length bs) 45 h);
-  room = λ d ps b r. (λ e. written-valid d ps b e .0, written d ps b (recordable-valid d ps r));
+  room = λ d ps b r k. (λ e. written-checked d ps b e .0, written d ps b (rules-checked d ps r k));
   no-room = λ d ps b h. let short = lt-ltb (length b) 45 h in (rw short, rw short);
   letter-no-room = λ t b h. let e = letter-short t b h in (e, ap (λ (o : Outcome Letter). letter.bufferAfter o b) e);
   description = λ t l b a h.

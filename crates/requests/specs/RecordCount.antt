@@ -12,6 +12,7 @@ use lib.ListN.{length, getD, take}
 use Rattle.answers.specs.Outcome.{given, refused}
 use Rattle.geometry.specs.declared.Point.{Point}
 use Rattle.geometry.specs.declared.Disk.{Disk}
+use Rattle.belonging.specs.Belonging.{Belong}
 use Rattle.record_writer.specs.Layout.{firstAt, secondAt, thirdAt}
 use Rattle.record_writer.specs.Bytes.{diskBytes, pointsBytes, madeThree}
 use Rattle.record_writer.specs.Writing.{writeOf, bufferAfter}
@@ -42,7 +43,7 @@ pub record RecordCount : Type 0 where
   -- "as is any other length"
   pub other-length : (bs : List ℕ) → (length bs ≡ 45 → ⊥) → readOf bs ≡ refused 7
   -- "the writer's buffer must have 45 bytes": that is enough; a shorter one is refused as 8, and unchanged
-  pub room : (d : Disk) (ps : List Point) (b : List ℕ) → Recordable d ps → (writeOf d ps b ≡ given tt) ↔ (45 ≤ length b)
+  pub room : (d : Disk) (ps : List Point) (b : List ℕ) → Recordable d ps → Belong d ps → (writeOf d ps b ≡ given tt) ↔ (45 ≤ length b)
   pub no-room : (d : Disk) (ps : List Point) (b : List ℕ) → length b < 45 → (writeOf d ps b ≡ refused 8) × (bufferAfter d ps b ≡ b)
   -- so in the call from a description to its record
   pub letter-no-room : (t b : List ℕ) → length b < 45 → (letterIn t b ≡ refused 8) × (letter.bufferAfter (letterIn t b) b ≡ b)

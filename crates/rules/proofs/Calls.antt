@@ -39,18 +39,20 @@ use Rattle.hull.specs.Chains.{hullOf}
 use Rattle.hull_points.specs.Reducing.{reduceOf}
 use Rattle.hull_points.proofs.Answers.{refused-answer, given-answer}
 use Rattle.validity.specs.Valid.{valid}
+use Rattle.belonging.specs.Belonging.{belongs, Belong}
+use Rattle.disk_checks.specs.Checks.{checkOf}
 use Rattle.radius.specs.Radius.{wholeRadius, radiusOf}
 use Rattle.record_writer.specs.Layout.{recordLength}
 use Rattle.record_writer.specs.Writing.{writeOf}
-use Rattle.record_reader.specs.Reading.{diskIn, pointsIn, countIn, readOf}
-use Rattle.record_reader.proofs.RoundTrip.{read-written, accepted, written-again}
+use Rattle.record_reader.specs.Reading.{diskIn, pointsIn, countIn, heldOf, readOf}
+use Rattle.record_reader.proofs.RoundTrip.{Read, read-fields, rewritten}
 use Rattle.preview.specs.Preview.{floats, previewOf}
-use Rattle.rules.specs.Row.{_unless_, eachOf, GoesBy}
+use Rattle.rules.specs.Row.{Rule, _unless_, eachOf, GoesBy}
 use Rattle.rules.specs.Rules.{Bytes, IsRecord, Names, loaderRow, sheetRow, engineRow, writerRow, readerRow, diskRow, appendRow, throughRow}
 use Rattle.rules.specs.Rules.{pointRow, tracedRow}
 use Rattle.rules.proofs.RowLaws.{row-end, row-step, row-then, row-through, row-none, row-first}
 use Rattle.geometry.proofs.EmBox.{inside, inside-test, all-inside, inside-all}
-use Rattle.rules.proofs.Recordables.{valid-recordable, recordable-valid}
+use Rattle.rules.proofs.Recordables.{valid-recordable, recordable-valid, belongs-belong, belong-belongs}
 use Rattle.rules.proofs.Sheets.{in-order, ordered}
 use Rattle.rules.proofs.Lines.{lines-judged}
 use Rattle.rules.proofs.Drawings.{place-names, named-once, placed}
@@ -169,15 +171,24 @@ traced l =
     few : {n m : ℕ} → n ≡ 3 * m → n / 3 ≤ 1024 → m ≤ 1024
     few e h = omega arith
 
--- one check of a disk and its points, and then a value
-checked : {A : Type 0} (d : Disk) (ps : List Point) (a : A) → GoesBy (diskRow d ps) (refuseIf (not (valid d ps)) 7 (given a))
-checked d ps a =
-    row-step (not (valid d ps)) 7 (λ h r. fails h (recordable-valid d ps r)) (λ h. valid-recordable d ps (not-false (valid d ps) h)) (λ r. row-end a)
+-- the checks of a disk and its points
+pub checks : (d : Disk) (ps : List Point) → GoesBy (diskRow d ps) (checkOf d ps)
+checks d ps =
+    row-step (not (valid d ps)) 7 (λ h r. fails h (recordable-valid d ps r)) (λ h. valid-recordable d ps (not-false (valid d ps) h)) (λ r.
+    row-step (not (belongs d ps)) 15 (λ h b. fails h (belong-belongs d ps b)) (λ h. belongs-belong d ps (not-false (belongs d ps) h)) (λ b.
+    row-end tt))
+
+-- and then a value
+then-value : {A : Type 0} {row : List Rule} (o : Outcome (Unit {0})) (a : A) → GoesBy row o → GoesBy row (andThen o (λ done. given a))
+then-value {A} o a g = row-through o _ g (λ u e. (a, ap after e)) (λ n e. ap after e)
+  where
+    after : Outcome (Unit {0}) → Outcome A
+    after p = andThen p (λ done. given a)
 
 pub writer : (d : Disk) (ps : List Point) (b : List ℕ) → GoesBy (writerRow d ps b) (writeOf d ps b)
 writer d ps b =
     row-step (ltb (length b) recordLength) 8 (λ h. above (ltb-true (length b) recordLength h)) (ltb-false (length b) recordLength)
-    (λ room. checked d ps tt)
+    (λ room. checks d ps)
 
 -- the reader's checks
 module _ (bs : List ℕ) where
@@ -190,33 +201,50 @@ module _ (bs : List ℕ) where
   abbrev fine : Bool
   fine = valid (diskIn bs) (pointsIn bs)
 
-  abbrev found : Disk × List Point
-  found = (diskIn bs, pointsIn bs)
+  abbrev fits-disk : Bool
+  fits-disk = belongs (diskIn bs) (pointsIn bs)
 
-  -- bytes that are a record are read as it
-  passed : IsRecord bs → (agree ≡ true) × (fine ≡ true)
-  passed r =
-      let read = ap readOf (r .bytes) ∙ read-written (r .disk) (r .support) (recordable-valid (r .disk) (r .support) (r .recordable)) in
-      let a = accepted bs (r .disk) (r .support) read in
-      (eq-eqb (countIn bs) (length (pointsIn bs)) (a .count ∙ ap length (sym (a .points))), ap₂ valid (a .disk) (a .points) ∙ a .fine)
+  -- in bytes that are a record stand its disk, its points and their count
+  stands : (r : IsRecord bs) → Read bs (r .disk) (r .support) (length (r .support))
+  stands r =
+      subst (λ (cs : List ℕ). Read cs (r .disk) (r .support) (length (r .support))) (sym (r .bytes))
+      (read-fields (r .disk) (r .support) (recordable-valid (r .disk) (r .support) (r .recordable)))
+
+  agreeing : IsRecord bs → agree ≡ true
+  agreeing r = let s = stands r in eq-eqb (countIn bs) (length (pointsIn bs)) (s .count ∙ ap length (sym (s .points)))
+
+  is-fine : IsRecord bs → fine ≡ true
+  is-fine r = let s = stands r in ap₂ valid (s .disk) (s .points) ∙ recordable-valid (r .disk) (r .support) (r .recordable)
 
   is-record : Bytes bs → length bs ≡ recordLength → agree ≡ true → fine ≡ true → IsRecord bs
-  is-record bytes long same v =
-      let read : readOf bs ≡ given found = rw (eq-eqb (length bs) recordLength long, same, v) in
-      record {
-        disk = diskIn bs;
-        support = pointsIn bs;
-        recordable = valid-recordable (diskIn bs) (pointsIn bs) v;
-        bytes = sym (written-again bs bytes (diskIn bs) (pointsIn bs) read .1);
-      }
+  is-record bytes long same v = record {
+    disk = diskIn bs;
+    support = pointsIn bs;
+    recordable = valid-recordable (diskIn bs) (pointsIn bs) v;
+    bytes = sym (rewritten bs bytes long (eqb-true (countIn bs) (length (pointsIn bs)) same));
+  }
 
-  -- the two checks behind the length are one rule
+  -- the points that stand in the bytes belong to the disk that does
+  abbrev Fitting : Type 0
+  Fitting = (r : IsRecord bs) → Belong (r .disk) (r .support)
+
+  fitting : fits-disk ≡ true → Fitting
+  fitting h r = let s = stands r in belongs-belong (r .disk) (r .support) (sym (ap₂ belongs (s .disk) (s .points)) ∙ h)
+
+  -- the two checks of 7 behind the length are one rule
   behind : Bytes bs → length bs ≡ recordLength → (b : Bool) → agree ≡ b
-      → GoesBy (7 unless IsRecord bs ∷ []) (refuseIf (not b) 7 (refuseIf (not fine) 7 (given found)))
+      → GoesBy (7 unless IsRecord bs ∷ 15 unless Fitting ∷ []) (refuseIf (not b) 7 (heldOf (diskIn bs) (pointsIn bs)))
   behind bytes long false e =
-      row-step true 7 (λ h r. true≢false (sym (passed r .0) ∙ e)) (λ h. absurd (true≢false h)) (λ r. row-end found)
+      row-step true 7 {rest = heldOf (diskIn bs) (pointsIn bs)} (λ h r. true≢false (sym (agreeing r) ∙ e)) (λ h. absurd (true≢false h))
+      (λ r. absurd (true≢false (sym (agreeing r) ∙ e)))
   behind bytes long true e =
-      row-step (not fine) 7 (λ h r. fails h (passed r .1)) (λ h. is-record bytes long e (not-false fine h)) (λ r. row-end found)
+      then-value (checkOf (diskIn bs) (pointsIn bs)) (diskIn bs, pointsIn bs)
+      (row-step (not fine) 7 (λ h r. fails h (is-fine r)) (λ h. is-record bytes long e (not-false fine h)) (λ r.
+      row-step (not fits-disk) 15 (λ h k. fails h (belong-belongs (diskIn bs) (pointsIn bs) (own k r))) (λ h. fitting (not-false fits-disk h)) (λ b.
+      row-end tt)))
+    where
+      own : Fitting → IsRecord bs → Belong (diskIn bs) (pointsIn bs)
+      own k r = let s = stands r in subst (λ (c : Disk). Belong c (pointsIn bs)) (sym (s .disk)) (subst (Belong (r .disk)) (sym (s .points)) (k r))
 
   pub reader : Bytes bs → GoesBy (readerRow bs) (readOf bs)
   reader bytes =
@@ -224,10 +252,10 @@ module _ (bs : List ℕ) where
       behind bytes long agree refl)
 
 pub radius : (d : Disk) (ps : List Point) → GoesBy (diskRow d ps) (radiusOf d ps)
-radius d ps = checked d ps (wholeRadius d)
+radius d ps = then-value (checkOf d ps) (wholeRadius d) (checks d ps)
 
 pub preview : (d : Disk) (ps : List Point) → GoesBy (diskRow d ps) (previewOf d ps)
-preview d ps = checked d ps (floats d (wholeRadius d))
+preview d ps = then-value (checkOf d ps) (floats d (wholeRadius d)) (checks d ps)
 
 -- the checks of a point that p names: 3, then 4
 boxed-and-few : (p : DrawnPoint) (n : ℕ) (c : Point) → placeOf p ≡ given c

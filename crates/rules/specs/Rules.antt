@@ -39,6 +39,7 @@ use Rattle.whole_floats.specs.Whole.{StandsFor}
 use Rattle.drawn_points.specs.declared.DrawnPoint.{DrawnPoint}
 use Rattle.drawn_points.specs.declared.DrawnPoint.the-variants.{Whole, Drawn}
 use Rattle.sheet.specs.Sheet.{count, directoryEnd, pair}
+use Rattle.belonging.specs.Belonging.{Belong}
 use Rattle.record_writer.specs.Layout.{recordLength}
 use Rattle.record_writer.specs.Bytes.{recordBytes}
 use Rattle.rules.specs.Row.{Rule, _unless_, DueFirst, eachOf}
@@ -185,14 +186,18 @@ pub record IsRecord (bs : List ℕ) : Type 0 where
   pub recordable : Recordable disk support
   pub bytes : bs ≡ recordBytes disk support
 
+-- "Reader, cutting radius, preview: 7."; "15 when it fails, after 7" (02, item 9)
+abbrev pub diskRow : Disk → List Point → List Rule
+diskRow d ps = 7 unless Recordable d ps ∷ 15 unless Belong d ps ∷ []
+
 -- "Writer: 8, 7."; a record has 45 bytes (record_writer/specs/Layout.antt)
 abbrev pub writerRow : Disk → List Point → List ℕ → List Rule
-writerRow d ps buffer = 8 unless (recordLength ≤ length buffer) ∷ 7 unless Recordable d ps ∷ []
+writerRow d ps buffer = 8 unless (recordLength ≤ length buffer) ∷ diskRow d ps
 
--- "Reader, cutting radius, preview: 7."; "A count that disagrees with the repeats is refused as 7, as is any other length" (02, item 4): bytes with such
--- a count are no record
+-- "A count that disagrees with the repeats is refused as 7, as is any other length" (02, item 4): bytes with such a count are no record
 abbrev pub readerRow : List ℕ → List Rule
-readerRow bs = 7 unless (length bs ≡ recordLength) ∷ 7 unless IsRecord bs ∷ []
-
-abbrev pub diskRow : Disk → List Point → List Rule
-diskRow d ps = 7 unless Recordable d ps ∷ []
+readerRow bs =
+    7 unless (length bs ≡ recordLength)
+    ∷ 7 unless IsRecord bs
+    ∷ 15 unless ((r : IsRecord bs) → Belong (r .disk) (r .support))
+    ∷ []

@@ -1,15 +1,16 @@
--- `preview::preview_of` meets its contract: a whole radius that was answered says that the disk is valid, and which radius it has.
-use mathlib.Core.Path.{sym, ap, _∙_}
+-- `preview::preview_of` meets its contract: a whole radius that was answered says that the disk and its points pass the checks, and which radius it has.
+use mathlib.Core.Path.{_≡_, sym, ap, _∙_}
 use borrow.Author.Needs.{needs}
 use Rattle.geometry.specs.EmBox.{em}
 use Rattle.answers.specs.Outcome.{given, refused}
 use Rattle.geometry.specs.Plane.{members}
-use Rattle.validity.specs.Valid.{valid}
+use Rattle.disk_checks.specs.Checks.{checkOf}
+use Rattle.disk_checks.proofs.CheckLaws.{passed}
 use Rattle.radius.specs.Radius.{wholeRadius, outcome}
 use Rattle.validity.proofs.ValidLaws.{limits, valid-disk}
 use Rattle.radius.proofs.RadiusLaws.{radius-limit}
 use Rattle.preview.specs.Preview.{floats}
-use Rattle.answers.proofs.OutcomeLaws.{given-by, refused-by}
+use Rattle.answers.proofs.OutcomeLaws.{given-same, both-given, refused-first}
 use Rattle.preview.proofs.preview_of.Statement.{statement}
 use Rattle.preview.proofs.preview_of.Tie as tie
 
@@ -24,8 +25,8 @@ floats-of-requires c κs =
     let w = c .before .before .before in
     let d = w .before .args .d in
     let ps = members (w .before .args .t) in
-    let k = given-by (valid d ps) 7 _ (wholeRadius d) (ap outcome (sym (c .before .r .given .1)) ∙ w .whole-radius .ensures) in
-    let v = valid-disk em d ps (k .0) in (v, rw (k .1) (radius-limit d (limits em d v)))
+    let k = both-given (checkOf d ps) _ _ (sym (w .whole-radius .ensures) ∙ ap outcome (c .before .r .given .1)) in
+    let v = valid-disk em d ps (passed d ps (k .1 .0) .0) in (v, rw (sym (given-same (k .1 .1))) (radius-limit d (limits em d v)))
 
 enum-known-r-2 : tie.Need-enum-known-r-2
 enum-known-r-2 c = search needs
@@ -35,16 +36,15 @@ returns c =
     let w = c .before .before .before .before in
     let d = w .before .args .d in
     let ps = members (w .before .args .t) in
-    let k = given-by (valid d ps) 7 _ (wholeRadius d) (ap outcome (sym (c .before .before .r .given .1)) ∙ w .whole-radius .ensures) in
-    rw (k .0) (ap given (c .floats-of .ensures ∙ ap (floats d) (k .1)))
+    let k = both-given (checkOf d ps) _ _ (sym (w .whole-radius .ensures) ∙ ap outcome (c .before .before .r .given .1)) in
+    rw (k .1 .0) (ap given (c .floats-of .ensures ∙ ap (floats d) (sym (given-same (k .1 .1)))))
 
 returns-2 : tie.Need-returns-2
 returns-2 c =
     let w = c .before .before .before in
     let d = w .before .args .d in
     let ps = members (w .before .args .t) in
-    let k = refused-by (valid d ps) 7 _ (wholeRadius d) (ap outcome (sym (c .before .r2 .given .1)) ∙ w .whole-radius .ensures) in
-    rw (k .0) (ap refused (k .1))
+    rw (refused-first (checkOf d ps) (wholeRadius d) (sym (w .whole-radius .ensures) ∙ ap outcome (c .before .r2 .given .1)))
 
 pub preview-of-spec : {M : Type 1} → statement M
 preview-of-spec =

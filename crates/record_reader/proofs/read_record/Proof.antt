@@ -1,4 +1,4 @@
--- `record_reader::read_record` meets its contract: the length, the count, then the rules for what stands in the bytes.
+-- `record_reader::read_record` meets its contract: the length, the count, then the checks of what stands in the bytes.
 use mathlib.Core.List.{List}
 use mathlib.Core.Path.{_≡_, sym, ap, ap₂, _∙_}
 use mathlib.Core.Bool.{true}
@@ -7,12 +7,9 @@ use borrow.Author.Needs.{needs}
 use borrow.Author.Tests.{eq-eqb, ne-eqb}
 use lib.Dec.{eqb}
 use lib.ListN.{length}
-use Rattle.answers.specs.Outcome.{given}
 use Rattle.geometry.specs.declared.Point.{Point}
-use Rattle.geometry.specs.declared.Disk.{Disk}
 use Rattle.record_writer.specs.Layout.{recordLength}
-use Rattle.validity.specs.Valid.{valid}
-use Rattle.record_reader.specs.Reading.{diskIn, pointsIn, countIn}
+use Rattle.record_reader.specs.Reading.{pointsIn, countIn, heldOf}
 use Rattle.record_reader.proofs.read_record.Statement.{statement}
 use Rattle.record_reader.proofs.read_record.Tie as tie
 
@@ -25,8 +22,8 @@ get-points-requires c κs = search needs
 count-agrees-requires : tie.Need-count-agrees-requires
 count-agrees-requires c κs = search needs
 
-is-valid-requires : tie.Need-is-valid-requires
-is-valid-requires c κs = search needs
+checked-requires : tie.Need-checked-requires
+checked-requires c κs = search needs
 
 -- what the tests say of the bytes
 module _ (c : tie.After-count-agrees) where
@@ -39,30 +36,17 @@ module _ (c : tie.After-count-agrees) where
   agreeing : c .count-agrees .result ≡ eqb (countIn bytes) (length (pointsIn bytes))
   agreeing = c .count-agrees .ensures ∙ ap (λ (ps : List Point). eqb (countIn bytes) (length ps)) (c .before .get-points .ensures)
 
-module _ (c : tie.After-is-valid) where
-  abbrev counted : tie.After-count-agrees
-  counted = c .before .before
-
-  agreed : eqb (countIn (bytes counted)) (length (pointsIn (bytes counted))) ≡ true
-  agreed = sym (agreeing counted) ∙ c .before .if2 .taken
-
-  tested : c .is-valid .result ≡ valid (diskIn (bytes counted)) (pointsIn (bytes counted))
-  tested = c .is-valid .ensures ∙ ap₂ valid (counted .before .before .get-disk .ensures) (counted .before .get-points .ensures)
-
 returns : tie.Need-returns
 returns c =
-    let s = counted (c .before) in
-    rw (long s, agreed (c .before), sym (tested (c .before)) ∙ c .if3 .taken)
-    (ap₂ (λ (d : Disk) (ps : List Point). given (d, ps)) (s .before .before .get-disk .ensures) (s .before .get-points .ensures))
+    let s = c .before .before in
+    rw (long s, sym (agreeing s) ∙ c .before .if2 .taken)
+    (c .checked .ensures ∙ ap₂ heldOf (s .before .before .get-disk .ensures) (s .before .get-points .ensures))
 
 returns-2 : tie.Need-returns-2
-returns-2 c = rw (long (counted (c .before)), agreed (c .before), sym (tested (c .before)) ∙ c .if3 .left)
+returns-2 c = rw (long (c .before), sym (agreeing (c .before)) ∙ c .if2 .left)
 
 returns-3 : tie.Need-returns-3
-returns-3 c = rw (long (c .before), sym (agreeing (c .before)) ∙ c .if2 .left)
-
-returns-4 : tie.Need-returns-4
-returns-4 c = rw (ne-eqb _ _ (c .if1 .left))
+returns-3 c = rw (ne-eqb _ _ (c .if1 .left))
 
 pub read-record-spec : {M : Type 1} → statement M
 read-record-spec =
@@ -71,8 +55,7 @@ read-record-spec =
     get-disk-requires
     get-points-requires
     count-agrees-requires
-    is-valid-requires
+    checked-requires
     returns
     returns-2
-    returns-3
-    returns-4)
+    returns-3)

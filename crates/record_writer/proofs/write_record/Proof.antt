@@ -1,13 +1,15 @@
--- `record_writer::write_record` meets its contract: the room, then the rules; the record is written only where none is broken.
-use mathlib.Core.Path.{sym, ap, _∙_}
+-- `record_writer::write_record` meets its contract: the room, the checks, then the disk and the points behind it.
+use mathlib.Core.Path.{_≡_, sym, ap, _∙_}
 use mathlib.Core.List.{List, _++_}
 use Prim.Native.Nat.{ℕ}
 use borrow.Author.Tests.{lt-ltb, le-ltb}
 use borrow.Author.Needs.{needs}
 use lib.ListN.{length}
 use lib.Seq.{sets}
+use Rattle.answers.specs.Outcome.{given}
 use Rattle.validity.proofs.ValidLaws.{members-counted}
 use Rattle.geometry.specs.Plane.{members}
+use Rattle.disk_checks.specs.Checks as checks
 use Rattle.record_writer.specs.Layout.{recordLength, firstAt}
 use Rattle.record_writer.specs.Bytes.{pointsBytes, madeThree, countBytes}
 use Rattle.record_writer.proofs.ByteLaws.{record-stored}
@@ -17,14 +19,20 @@ use Rattle.record_writer.proofs.write_record.Tie as tie
 returns : tie.Need-returns
 returns c = let short = lt-ltb (length (c .before .before .args .buf .now)) recordLength (c .if1 .taken) in (rw short, rw short)
 
-is-valid-requires : tie.Need-is-valid-requires
-is-valid-requires c κs = search needs
+check-requires : tie.Need-check-requires
+check-requires c κs = search needs
+
+enum-told : tie.Need-enum-told
+enum-told c = search needs
 
 put-disk-requires : tie.Need-put-disk-requires
 put-disk-requires c κs = search needs
 
 put-points-requires : tie.Need-put-points-requires
 put-points-requires c κs = search needs
+
+enum-known-r : tie.Need-enum-known-r
+enum-known-r c = search needs
 
 same-length : tie.Need-same-length
 same-length c = search needs
@@ -33,33 +41,37 @@ returns-2 : tie.Need-returns-2
 returns-2 c =
     let points = c .before .before in
     let disk = points .before .before .before .before in
-    let then2 = disk .before .before in
-    let s = then2 .before .before .before .before in
+    let told = disk .before .before in
+    let checked = told .before .before in
+    let s = checked .before .before .before in
     let l = s .args .buf .now in
     let d = s .args .d in
     let t = s .args .t in
-    let long = le-ltb (length l) recordLength (then2 .before .before .if1 .left) in
-    let ok = sym (then2 .before .is-valid .ensures) ∙ then2 .if2 .taken in (
+    let long = le-ltb (length l) recordLength (checked .before .if1 .left) in
+    let ok : checks.checkOf d (members t) ≡ given tt = sym (checked .check .ensures) ∙ ap checks.outcome (told .enum-told .given .1) in (
       rw (long, ok),
       rw (long, ok)
           (points .put-points .ensures
           ∙ ap (λ (m : List ℕ). sets m firstAt (pointsBytes (madeThree (members t)) ++ countBytes (members t))) (disk .put-disk .ensures)
-          ∙ record-stored l d (members t) (members-counted t) (then2 .before .before .if1 .left)),
+          ∙ record-stored l d (members t) (members-counted t) (checked .before .if1 .left)),
     )
 
 returns-3 : tie.Need-returns-3
 returns-3 c =
-    let long = le-ltb (length (c .before .before .before .before .args .buf .now)) recordLength (c .before .before .if1 .left) in
-    let bad = sym (c .before .is-valid .ensures) ∙ c .if2 .left in (rw (long, bad), rw (long, bad))
+    let checked = c .before .before .before in
+    let long = le-ltb (length (checked .before .before .before .args .buf .now)) recordLength (checked .before .if1 .left) in
+    let bad = sym (checked .check .ensures) ∙ ap checks.outcome (c .before .r .given .1) in (rw (long, bad), rw (long, bad))
 
 pub write-record-spec : {M : Type 1} → statement M
 write-record-spec =
     tie.close
     (tie.spec
     returns
-    is-valid-requires
+    check-requires
+    enum-told
     put-disk-requires
     put-points-requires
+    enum-known-r
     same-length
     returns-2
     returns-3)
