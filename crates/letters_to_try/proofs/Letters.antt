@@ -11,6 +11,7 @@ use Rattle.disks.specs.Support.{fronted, choose, sameDisk, supports, firstOf, f
 use Rattle.engine.specs.Engine.{encloseOf, listAfter}
 use Rattle.integers.specs.Least.{least, firstFrom}
 use Rattle.validity.specs.Valid.{centreInBox, validDiskIn, validPointsIn, validIn}
+use Rattle.belonging.specs.Belonging.{isDiskOf, leftOut, noneHas, belongs}
 use Rattle.letters_to_try.specs.Letters.{letters, AllHold}
 
 -- one after another
@@ -23,6 +24,7 @@ unfolding gcd steps holds inBox allInBox before points flat
     outside lowestTerms diameterDisk turnedBy circle boundaryDisk tested step through run
     insert sorted fronted choose sameDisk supports firstOf firstSupport
     encloseOf listAfter least firstFrom centreInBox validDiskIn rising validPointsIn validIn
+    isDiskOf leftOut noneHas belongs
 letters-hold =
     record { answer = refl; order = refl; whole = refl }
     & record { answer = refl; order = refl; whole = refl }

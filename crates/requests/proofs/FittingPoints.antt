@@ -1,0 +1,111 @@
+-- Document 02, item 9 holds (specs/FittingPoints.antt).
+--
+--   left-out        : points that belong have another smallest disk where one of them is left out, or none is left
+--   fails           : points that do not belong are refused as 15
+--   own-record      : what the reader takes is the record worked out for the named points alone
+--   fitting-points  : FittingPoints
+use mathlib.Core.Path.{_≡_, refl, sym, _∙_, ap, ap₂, subst}
+use mathlib.Core.Logic.{_⊎_, inl, inr}
+use mathlib.Core.List.{List, [], _∷_, _++_}
+use Prim.Native.Nat.{ℕ}
+use native.Mathlib.Omega.{arith}
+use borrow.Author.Tests.{le-ltb}
+use lib.ListN.{length}
+use Rattle.answers.specs.Outcome.{given, refused}
+use Rattle.geometry.specs.declared.Point.{Point}
+use Rattle.geometry.specs.declared.Disk.{Disk}
+use Rattle.geometry.specs.Points.{flat}
+use Rattle.geometry.proofs.EmBox.{inside-all}
+use Rattle.disks.specs.Smallest.{Smallest}
+use Rattle.disks.specs.Procedure.{diskOf}
+use Rattle.disks.specs.Support.{firstSupport}
+use Rattle.disks.proofs.Welzl.{smallest}
+use Rattle.engine.specs.Engine.{enclosure, encloseOf}
+use Rattle.belonging.specs.Belonging.{Belong}
+use Rattle.belonging.proofs.Meaning.{none-smallest}
+use Rattle.belonging.proofs.Answers.{own-first, only-support, own-answer, own-support}
+use Rattle.disk_checks.specs.Checks.{checkOf}
+use Rattle.record_writer.specs.Layout.{recordLength}
+use Rattle.record_writer.specs.Bytes.{recordBytes}
+use Rattle.record_reader.specs.Reading.{readOf}
+use Rattle.record_reader.proofs.RoundTrip.{read-held, accepted, written-again}
+use Rattle.letter.proofs.ValidAnswer.{checked-enclosure}
+use Rattle.letter.proofs.Whole.{enclosed-flat}
+use Rattle.rules.specs.Rules.{Bytes, Recordable}
+use Rattle.rules.proofs.Recordables.{recordable-valid, belongs-belong, belong-belongs, checked-rules}
+use Rattle.rules.proofs.Calls as calls
+use Rattle.claims.specs.Demand3.{WorkedOut}
+use Rattle.claims.proofs.Records.{written, filled}
+use Rattle.claims.proofs.Demand2.{demand-two}
+use Rattle.claims.proofs.Whole.{steps}
+use Rattle.requests.specs.FittingPoints.{Unfit, Fixing, FittingPoints}
+
+-- ---- a point left out
+
+left-out : (d : Disk) (ps : List Point) → Belong d ps → (front : List Point) (p : Point) (back : List Point) → ps ≡ front ++ (p ∷ back)
+    → ((c : Disk) × Smallest (front ++ back) c × (c ≡ d → ⊥)) ⊎ (front ++ back ≡ [])
+left-out d ps b front p back e = go (front ++ back) (b .needed front p back e)
+  where
+    go : (qs : List Point) → (Smallest qs d → ⊥) → ((c : Disk) × Smallest qs c × (c ≡ d → ⊥)) ⊎ (qs ≡ [])
+    go [] n = inr refl
+    go (q ∷ qs) n = inl (diskOf (q ∷ qs), smallest q qs, λ same. n (subst (Smallest (q ∷ qs)) same (smallest q qs)))
+
+-- ---- points that do not belong
+
+fails : (d : Disk) (ps : List Point) → Recordable d ps → (Belong d ps → ⊥) → Unfit d ps
+fails d ps r n =
+    let c : checkOf d ps ≡ refused 15 = calls.checks d ps .refusal 15 .1 (inr (r, inl (n, refl))) in
+    record {
+      reader = read-held d ps (recordable-valid d ps r) ∙ rw c;
+      writer = λ b h. let long = le-ltb (length b) recordLength h in (rw (long, c), rw (long, c));
+      radius = rw c;
+      preview = rw c;
+    }
+
+-- ---- records that are read
+
+letter : (l : _) (bs : List ℕ) (w : WorkedOut l bs) → readOf bs ≡ given (w .answer .disk, w .answer .support)
+letter l bs w = ap readOf (w .filled) ∙ demand-two .records .read-back (w .answer .disk) (w .answer .support) (w .buffer) (w .written)
+
+module _ (bs : List ℕ) (d : Disk) (ps : List Point) (h : readOf bs ≡ given (d, ps)) where
+  rules : Recordable d ps × Belong d ps
+  rules = checked-rules d ps (accepted bs d ps h .fine)
+
+  fixing : Fixing d ps
+  fixing = let (r, b) = rules in record {
+    smallest = b .own;
+    first-support = own-first b (r .rises) (r .some) (r .most);
+    no-other-support = only-support b (r .rises) (r .some) (r .most);
+  }
+
+  disk-is : diskOf ps ≡ d
+  disk-is = let (r, b) = rules in own-answer b (r .rises) (r .some) (r .most)
+
+  support-is : firstSupport ps ≡ ps
+  support-is = let (r, b) = rules in own-support b (r .rises) (r .some) (r .most)
+
+  enclosed : encloseOf (flat ps) ≡ given (enclosure ps)
+  enclosed = let r = rules .0 in enclosed-flat ps (r .some) (omega (arith, r .most)) (inside-all ps (r .in-box))
+
+  own-record : Bytes bs → (w : WorkedOut (flat ps) bs) × (w .answer .disk ≡ d) × (w .answer .support ≡ ps)
+  own-record bytes =
+      let done = written (diskOf ps) (firstSupport ps) bs (checked-enclosure (flat ps) (enclosure ps) enclosed) (omega (arith, accepted bs d ps h .long)) in
+      let bytes-are = filled (diskOf ps) (firstSupport ps) bs done ∙ ap₂ recordBytes disk-is support-is ∙ written-again bs bytes d ps h .1 in
+      (record { answer = enclosure ps; accepted = enclosed; buffer = bs; written = done; filled = sym bytes-are }, disk-is, support-is)
+
+pub fitting-points : FittingPoints
+fitting-points = record {
+  tested = λ d ps. (belongs-belong d ps, belong-belongs d ps);
+  another-or-none = left-out;
+  none = λ d. none-smallest;
+  fails = fails;
+  engine = λ l e h. checked-rules (e .disk) (e .support) (checked-enclosure l e h) .1;
+  letter = letter;
+  description = λ t l b a h.
+      let s = steps t l b a h in ap readOf (s .filled-with) ∙ demand-two .records .read-back (a .disk-given) (a .support) b (s .done);
+  records = λ bs bytes d ps. (
+    λ h. own-record bs d ps h bytes,
+    λ (w, same, points). letter (flat ps) bs w ∙ ap₂ (λ (c : Disk) (qs : List Point). given (c, qs)) same points,
+  );
+  named = fixing;
+}
