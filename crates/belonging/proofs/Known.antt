@@ -15,7 +15,7 @@ use Rattle.point_lists.specs.Sets.{In}
 use Rattle.point_lists.proofs.Order.{before-not-equal}
 use Rattle.point_lists.proofs.Rising.{rising-test}
 use Rattle.support_tests.specs.Tests.{onBoundaryTest, opposite, acute}
-use Rattle.validity.specs.Valid.{valid, validDisk}
+use Rattle.validity.specs.Valid.{valid}
 use Rattle.validity.proofs.ValidLaws.{limits, valid-disk, valid-points, rises, boxed, valid-lowest, valid-within}
 use Rattle.belonging.specs.Belonging.{belongs}
 use Rattle.belonging.proofs.Tests.{belongs-one, belongs-two, belongs-three}

@@ -5,18 +5,17 @@
 --   belongs-meaning  : belongs d ps says that ps belong to d; of every disk and all points
 use mathlib.Core.Path.{_≡_, refl, sym, _∙_, ap, subst}
 use mathlib.Core.Logic.{_⊎_, inl, inr, _↔_}
-use mathlib.Core.Bool.{Bool, true, false, not, _&&_}
+use mathlib.Core.Bool.{not, _&&_}
 use mathlib.Core.List.{List, [], _∷_, _++_, List·Memᴰ·head, List·Memᴰ·tail, List·Memᴰ·cases-cons, List·Memᴰ·not-nil}
 use native.Mathlib.Omega.{arith}
-use lib.Dec.{T, T-not, not-T, eqb, eqb→eq, eqb-refl}
-use lib.IntN.{ℤ, pos, negsuc, _-ℤ_}
+use lib.Dec.{T, T-not, not-T}
+use lib.IntN.{pos, negsuc, _-ℤ_}
 use lib.Signed.{_≤ℤ_}
 use Rattle.integers.proofs.Tests.{and-left, and-right, and-both}
 use Rattle.integers.proofs.Order.{clash, le, pos-le, nn, _⊞_, _⊠_}
 use Rattle.integers.proofs.Ring.{poly}
 use Rattle.geometry.specs.declared.Point.{Point}
 use Rattle.geometry.specs.declared.Disk.{Disk}
-use Rattle.integers.specs.Order.{eqZ}
 use Rattle.disks.specs.Smallest.{RationalDisk, Fits, Smallest}
 use Rattle.disks.specs.Procedure.{diskOf}
 use Rattle.disks.specs.Support.{sameDisk, fronted}

@@ -8,10 +8,10 @@
 --   smallest-hull        : the smallest disk of P is that of its hull
 --   first-support-hull   : the first support set of P is that of its hull
 --   disk-of-hull, support-of-hull : the same of `diskOf` and `firstSupport`
-use mathlib.Core.Path.{_≡_, refl, sym, _∙_, ap, subst}
+use mathlib.Core.Path.{_≡_, refl, sym, _∙_, subst}
 use mathlib.Core.Logic.{_⊎_, inl, inr, _↔_}
-use mathlib.Core.List.{List, [], _∷_, List·Memᴰ·head, List·Memᴰ·tail, List·Memᴰ·cases-cons, List·Memᴰ·not-nil}
-use Prim.Native.Nat.{ℕ, suc, _≤_, _<_}
+use mathlib.Core.List.{List, [], _∷_, List·Memᴰ·head, List·Memᴰ·not-nil}
+use Prim.Native.Nat.{ℕ, _≤_, _<_}
 use native.Mathlib.Omega.{arith}
 use lib.Dec.{T}
 use lib.IntN.{pos, _*ℤ_}
@@ -23,7 +23,7 @@ use Rattle.geometry.specs.declared.Point.{Point}
 use Rattle.geometry.specs.declared.Disk.{Disk}
 use Rattle.geometry.specs.Plane.{distance, holds, onBoundary}
 use Rattle.point_lists.specs.Sets.{In}
-use Rattle.point_lists.specs.Rising.{sorted, Rising}
+use Rattle.point_lists.specs.Rising.{sorted}
 use Rattle.point_lists.proofs.Sets.{same-refl}
 use Rattle.point_lists.proofs.Rising.{sorted-rises, sorted-same, sorted-length, fewer-or-same}
 use Rattle.disks.specs.Smallest.{RationalDisk, reach, Fits, Smallest}

@@ -1,8 +1,8 @@
 -- `preview::preview_of` meets its contract: a whole radius that was answered says that the disk and its points pass the checks, and which radius it has.
-use mathlib.Core.Path.{_≡_, sym, ap, _∙_}
+use mathlib.Core.Path.{sym, ap, _∙_}
 use borrow.Author.Needs.{needs}
 use Rattle.geometry.specs.EmBox.{em}
-use Rattle.answers.specs.Outcome.{given, refused}
+use Rattle.answers.specs.Outcome.{given}
 use Rattle.geometry.specs.Plane.{members}
 use Rattle.disk_checks.specs.Checks.{checkOf}
 use Rattle.disk_checks.proofs.CheckLaws.{passed}
