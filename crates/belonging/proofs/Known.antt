@@ -2,10 +2,9 @@
 --
 --   known          : the disk keeps to the limits, and the points lie in the em box
 --   tested-one, tested-two, tested-three : the tests of Tests.antt, for such a disk and points
-use mathlib.Core.Path.{_≡_}
+use mathlib.Core.Path.{_≡_, refl}
 use mathlib.Core.Bool.{true, _&&_}
 use mathlib.Core.List.{List, [], _∷_, List·Memᴰ·head}
-use mathlib.Core.Path.{refl}
 use lib.Dec.{T, eqb}
 use Rattle.geometry.specs.declared.Point.{Point}
 use Rattle.geometry.specs.declared.Disk.{Disk}

@@ -10,15 +10,18 @@ use mathlib.Core.List.{List, [], _∷_, _++_}
 use Prim.Native.Nat.{ℕ}
 use native.Mathlib.Omega.{arith}
 use borrow.Author.Tests.{le-ltb}
+use lib.IntN.{ℤ}
 use lib.ListN.{length}
 use Rattle.answers.specs.Outcome.{given, refused}
 use Rattle.geometry.specs.declared.Point.{Point}
 use Rattle.geometry.specs.declared.Disk.{Disk}
 use Rattle.geometry.specs.Points.{flat}
 use Rattle.geometry.proofs.EmBox.{inside-all}
+use Rattle.point_lists.proofs.Sets.{same-refl}
 use Rattle.disks.specs.Smallest.{Smallest}
 use Rattle.disks.specs.Procedure.{diskOf}
 use Rattle.disks.specs.Support.{firstSupport}
+use Rattle.disks.proofs.OneWriting.{smallest-same}
 use Rattle.disks.proofs.Welzl.{smallest}
 use Rattle.engine.specs.Engine.{enclosure, encloseOf}
 use Rattle.belonging.specs.Belonging.{Belong}
@@ -64,7 +67,7 @@ fails d ps r n =
 
 -- ---- records that are read
 
-letter : (l : _) (bs : List ℕ) (w : WorkedOut l bs) → readOf bs ≡ given (w .answer .disk, w .answer .support)
+letter : (l : List ℤ) (bs : List ℕ) (w : WorkedOut l bs) → readOf bs ≡ given (w .answer .disk, w .answer .support)
 letter l bs w = ap readOf (w .filled) ∙ demand-two .records .read-back (w .answer .disk) (w .answer .support) (w .buffer) (w .written)
 
 module _ (bs : List ℕ) (d : Disk) (ps : List Point) (h : readOf bs ≡ given (d, ps)) where
@@ -98,6 +101,7 @@ fitting-points = record {
   tested = λ d ps. (belongs-belong d ps, belong-belongs d ps);
   another-or-none = left-out;
   none = λ d. none-smallest;
+  one-disk = λ d c ps b k. smallest-same (same-refl ps) (same-refl []) (b .own) (k .own);
   fails = fails;
   engine = λ l e h. checked-rules (e .disk) (e .support) (checked-enclosure l e h) .1;
   letter = letter;

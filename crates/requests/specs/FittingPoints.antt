@@ -51,6 +51,8 @@ pub record FittingPoints : Type 0 where
       → (front : List Point) (p : Point) (back : List Point) → ps ≡ front ++ (p ∷ back)
       → ((c : Disk) × Smallest (front ++ back) c × (c ≡ d → ⊥)) ⊎ (front ++ back ≡ [])
   pub none : (d : Disk) → Smallest [] d → ⊥
+  -- so points belong to one disk at most
+  pub one-disk : (d c : Disk) (ps : List Point) → Belong d ps → Belong c ps → d ≡ c
   -- "Reader, writer, cutting radius and preview now test it: .. 15 when it fails"
   pub fails : (d : Disk) (ps : List Point) → Recordable d ps → (Belong d ps → ⊥) → Unfit d ps
   -- "Every record made from a letter still passes.": the engine's points belong to its disk; a record worked out is read as these, from a description too
