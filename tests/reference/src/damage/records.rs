@@ -225,6 +225,7 @@ mod tests {
     use super::*;
     use crate::belonging::points_fit;
     use crate::damage::tests::seen;
+    use crate::letters::points;
     use crate::limits::RECORD_LENGTH;
     use crate::refusal::Refusal;
 
@@ -249,17 +250,46 @@ mod tests {
         assert!([7, 8, 15].iter().all(|&number| times[number] > 600), "{times:?}");
     }
 
+    #[test]
+    fn the_single_faults_of_letter_c() {
+        let disk = |[x, y, e, s]: [i128; 4]| Disk { x, y, e, s };
+        let letter = [2, 0, 1, 4];
+        let steps = (0..4).flat_map(|i| [-1, 1].map(|step| (i, step))).map(|(i, step)| {
+            let mut numbers = letter;
+            numbers[i] += step;
+            (disk(numbers), points(&[(0, 0), (4, 0)]))
+        });
+        let sets: [&[(i16, i16)]; 13] = [
+            &[(-1, 0), (4, 0)],
+            &[(1, 0), (4, 0)],
+            &[(0, -1), (4, 0)],
+            &[(0, 1), (4, 0)],
+            &[(0, 0), (3, 0)],
+            &[(0, 0), (5, 0)],
+            &[(0, 0), (4, -1)],
+            &[(0, 0), (4, 1)],
+            &[(0, 0)],
+            &[(4, 0)],
+            &[(0, 0), (2, 1)],
+            &[(2, 1), (4, 0)],
+            &[(0, 0), (2, 1), (4, 0)],
+        ];
+        let expected: Vec<(Disk, SupportSet)> = steps.chain(sets.map(|set| (disk(letter), points(set)))).collect();
+        let faults = single_faults(&disk(letter), &points(&[(0, 0), (4, 0)]), &points(&[(2, 1)]));
+        assert!(faults.len() == 21 && expected.iter().all(|fault| faults.contains(fault)), "{faults:?}");
+    }
+
     /// Points, pairs and triples, many of them not the first set of their list.
     #[test]
     fn sets_that_fit_are_of_every_size_and_often_not_the_first() {
         let mut random = Random::new(9);
         let (mut sizes, mut others) = ([0; 4], [0; 4]);
         for _ in 0..5_000 {
-            let points = short_list(&mut random);
-            let (disk, support) = belonging(&points, &mut random);
+            let list = short_list(&mut random);
+            let (disk, support) = belonging(&list, &mut random);
             assert!(points_fit(&disk, &support), "{disk:?} with {support:?}");
             sizes[support.len()] += 1;
-            others[support.len()] += usize::from(support != engine::solve(&mut engine::flat(&points)).unwrap().support);
+            others[support.len()] += usize::from(support != engine::solve(&mut engine::flat(&list)).unwrap().support);
         }
         assert!(sizes[1..].iter().all(|&number| number > 300), "{sizes:?}");
         assert!(others[2..].iter().all(|&number| number > 40), "{others:?}");
