@@ -67,7 +67,7 @@ const VALID: [(&str, Numbers, Points); 4] = [
 ];
 
 #[rustfmt::skip]
-const FAULTY: [(&str, Numbers, Points); 26] = [
+const FAULTY: [(&str, Numbers, Points); 38] = [
     ("E from 1 to 2,000,000", (12, 5, 0, 0), F_POINTS),
     ("E from 1 to 2,000,000", (12, 5, 2_000_001, 169), F_POINTS),
     ("E from 1 to 2,000,000", (12, 5, u64::MAX as i128, 169), F_POINTS),
@@ -94,6 +94,19 @@ const FAULTY: [(&str, Numbers, Points); 26] = [
     ("corners in the em box", F, &[(0, 0), (2, 751), (4, 0)]),
     ("corners in the em box", F, &[(i16::MIN, 0)]),
     ("corners in the em box", F, &[(0, i16::MAX)]),
+    // the points are on the boundary and hold the disk in place, but are not in order or not in the em box
+    ("The corners rise strictly", F, &[(4, 0), (2, 3), (0, 0)]),
+    ("The corners rise strictly", F, &[(2, 3), (0, 0), (4, 0)]),
+    ("The corners rise strictly", (2, 0, 1, 4), &[(4, 0), (0, 0)]),
+    ("The corners rise strictly", (0, 250, 1, 250_000), &[(0, 750), (0, -250)]),
+    ("The corners rise strictly", (2, 0, 1, 4), &[(0, 0), (0, 0), (4, 0)]),
+    ("The corners rise strictly", (2, 0, 1, 4), &[(0, 0), (4, 0), (4, 0)]),
+    ("The corners rise strictly", (7, 7, 1, 0), &[(7, 7), (7, 7)]),
+    ("The corners rise strictly", (7, 7, 1, 0), &[(7, 7), (7, 7), (7, 7)]),
+    ("corners in the em box", (0, 0, 1, 1), &[(-1, 0), (1, 0)]),
+    ("corners in the em box", (1000, 0, 1, 1), &[(999, 0), (1001, 0)]),
+    ("corners in the em box", (0, -250, 1, 1), &[(0, -251), (0, -249)]),
+    ("corners in the em box", (0, 750, 1, 1), &[(0, 749), (0, 751)]),
 ];
 
 /// Letter F, a disk with E 0, and letter F without a point, into buffers of other lengths.
@@ -121,6 +134,7 @@ pub fn readings() -> Vec<Reading> {
     let says = "high byte first; if there are one or two, the last is repeated to make three; a 45th byte (02, item 4)";
     let letters = LETTERS.iter().map(|l| reading(says, bytes_of(l.disk, l.support), Ok((l.disk, l.support))));
     let valid = VALID.iter().map(|&(says, numbers, support)| reading(says, bytes_of(numbers, support), Err(15)));
+    let faulty = FAULTY.iter().map(|&(says, numbers, support)| reading(says, bytes_of(numbers, support), Err(7)));
     let changed = CHANGED.iter().map(|&(says, changes, gives)| reading(says, f_record(changes), gives));
     let lengths = [0, 43, 44, 45, 46, 50].map(|length| {
         let mut given = f_record(&[]);
@@ -128,7 +142,8 @@ pub fn readings() -> Vec<Reading> {
         reading("7: any other length (02, item 4)", given, if length == 45 { Ok((F, F_POINTS)) } else { Err(7) })
     });
     let unwritten = reading("7: a record .. not valid", vec![0xAA; 45], Err(7));
-    letters.chain(valid).chain(changed).chain(lengths).chain([unwritten]).chain(counts()).chain(belonging::readings()).collect()
+    let by_rule = letters.chain(valid).chain(faulty).chain(changed).chain(lengths).chain([unwritten]);
+    by_rule.chain(counts()).chain(belonging::readings()).collect()
 }
 
 /// Every value of the last byte against every kind of repeats.
