@@ -39,7 +39,7 @@ pub fn writer(random: &mut Random) -> WriterCase {
 /// A disk and points that belong together, or in four cases of ten with a single fault.
 fn drawn_pair(random: &mut Random) -> (Disk, SupportSet) {
     let points = short_list(random);
-    let (disk, support) = belonging(&points, random);
+    let (disk, support) = fitting(&points, random);
     match random.below(10) {
         0 => (smallest_disk(&short_list(random)), support),
         1..4 => {
@@ -60,7 +60,7 @@ fn short_list(random: &mut Random) -> Vec<Point> {
 
 /// The smallest disk of the points, with the first support set or with any other set that fits: what is left when points go, one after
 /// another in any order, as long as the disk stays.
-fn belonging(points: &[Point], random: &mut Random) -> (Disk, SupportSet) {
+fn fitting(points: &[Point], random: &mut Random) -> (Disk, SupportSet) {
     let Answer { disk, support, .. } = engine::solve(&mut engine::flat(points)).expect("a short list in the em box");
     if random.chance(50) {
         return (disk, support);
@@ -118,10 +118,10 @@ pub fn any_record(random: &mut Random) -> Vec<u8> {
     bytes
 }
 
-/// How many ways of damage are drawn from; in half of them nothing is damaged.
+/// How many ways there are to damage a record; most of them leave it as it is.
 const WAYS: usize = 12;
 
-/// A number, the points, a bit, the length or the count. The fourth way is a disk at the limits, where any will do.
+/// A number, the points, a bit, the length or the count, each by its way.
 fn damage_bytes(bytes: &mut Vec<u8>, way: usize, random: &mut Random) {
     match way {
         0 => damage_word(bytes, random),
@@ -286,7 +286,7 @@ mod tests {
         let (mut sizes, mut others) = ([0; 4], [0; 4]);
         for _ in 0..5_000 {
             let list = short_list(&mut random);
-            let (disk, support) = belonging(&list, &mut random);
+            let (disk, support) = fitting(&list, &mut random);
             assert!(points_fit(&disk, &support), "{disk:?} with {support:?}");
             sizes[support.len()] += 1;
             others[support.len()] += usize::from(support != engine::solve(&mut engine::flat(&list)).unwrap().support);
