@@ -1,15 +1,17 @@
 //! Drawn descriptions, sheets and records, many of them damaged, each by its seed.
 
+mod records;
+
 use crate::drawing::DrawnPoint;
 use crate::engine;
-use crate::geometry::{gcd, Disk, Point};
-use crate::inputs::{AppendCase, LoaderCase, PartCase, SheetCase, WriterCase};
-use crate::limits::{FOOT, LEFT, LIST_LENGTH, MOST_E, MOST_SQUARE, RIGHT, TOP};
+use crate::geometry::Point;
+use crate::inputs::{AppendCase, LoaderCase, PartCase, SheetCase};
+use crate::limits::{FOOT, LEFT, LIST_LENGTH, RIGHT, TOP};
 use crate::lists::{self, Kind};
 use crate::random::Random;
-use crate::record;
 use crate::sheet;
-use crate::support::SupportSet;
+
+pub use records::{any_record, any_writer, record, single_faults, writer};
 
 // ---- descriptions
 
@@ -236,117 +238,16 @@ pub fn part(random: &mut Random) -> PartCase {
     PartCase { start, length, bytes }
 }
 
-// ---- records
-
-/// A record: valid in about half of the cases, otherwise wrong in a field, in its points' order, in their count or in its length.
-pub fn record(random: &mut Random) -> Vec<u8> {
-    let mut bytes = record::bytes_of(&valid_disk(random), &valid_support(random));
-    match random.below(12) {
-        0 => damage_word(&mut bytes, random),
-        1 => damage_points(&mut bytes, random),
-        2 => {
-            let at = random.below(bytes.len());
-            bytes[at] ^= 1 << random.below(8);
-        }
-        3 => bytes.resize(random.pick(&[0, 1, 44, 46, 90]), 0),
-        4 => bytes = record::bytes_of(&edge_disk(random), &valid_support(random)),
-        5 => bytes[44] = random.pick(&[0, 1, 2, 3, 4, 255]),
-        _ => (),
-    }
-    bytes
-}
-
-/// Wherever in the rules' limits.
-fn valid_disk(random: &mut Random) -> Disk {
-    let limit = random.pick(&[1, 2, 6, 1_000, MOST_E as i64]);
-    let e = random.between(1, limit);
-    let x = random.between(i64::from(LEFT) * e, i64::from(RIGHT) * e);
-    let y = random.between(i64::from(FOOT) * e, i64::from(TOP) * e);
-    let disk = Disk { x: x.into(), y: y.into(), e: e.into(), s: 0 };
-    let divisor = gcd(gcd(disk.x, disk.y), disk.e);
-    let e = disk.e / divisor;
-    let s = random.between(0, (MOST_SQUARE * e * e) as i64).into();
-    Disk { x: disk.x / divisor, y: disk.y / divisor, e, s }
-}
-
-/// A disk at a limit or a step beyond it.
-fn edge_disk(random: &mut Random) -> Disk {
-    let e = random.pick(&[0, 1, 2, MOST_E - 1, MOST_E, MOST_E + 1]);
-    let step = i128::from(random.between(-1, 1));
-    let [left, right, foot, top] = [LEFT, RIGHT, FOOT, TOP].map(|edge| i128::from(edge) * e);
-    let x = random.pick(&[left, 1, right, right + step, left + step]);
-    let y = random.pick(&[1, foot, foot + step, top, top + step]);
-    let largest = MOST_SQUARE * e * e;
-    let s = random.pick(&[0, largest, (largest + step).max(0)]);
-    Disk { x, y, e, s }
-}
-
-/// One to three different points in rising order.
-fn valid_support(random: &mut Random) -> SupportSet {
-    let n = 1 + random.below(3);
-    let kind = random.pick(&[Kind::Uniform, Kind::SmallBox, Kind::Edges]);
-    let mut support = lists::draw(kind, n, random);
-    support.sort_unstable();
-    support.dedup();
-    support
-}
-
-/// X, Y, E or S replaced by a number at the ends of its type, or moved a step.
-fn damage_word(bytes: &mut [u8], random: &mut Random) {
-    let at = 8 * random.below(4);
-    let old = u64::from_be_bytes(bytes[at..at + 8].try_into().expect("eight bytes"));
-    let ends = [0, 1, u64::MAX, 1 << 63, i64::MAX as u64, random.word()];
-    let steps = [old.wrapping_add(1), old.wrapping_sub(1), old.wrapping_neg(), old << 1];
-    let new = if random.chance(50) { random.pick(&ends) } else { random.pick(&steps) };
-    bytes[at..at + 8].copy_from_slice(&new.to_be_bytes());
-}
-
-/// Two points swapped, one copied over another, or a coordinate outside the em box or near its edge; then, in half of the cases, a
-/// count from 1 to 3.
-fn damage_points(bytes: &mut [u8], random: &mut Random) {
-    let (i, j) = (32 + 4 * random.below(3), 32 + 4 * random.below(3));
-    match random.below(3) {
-        0 => (0..4).for_each(|byte| bytes.swap(i + byte, j + byte)),
-        1 => bytes.copy_within(i..i + 4, j),
-        _ => {
-            let at = i + 2 * random.below(2);
-            let edge: i16 = random.pick(&[LEFT - 1, LEFT, RIGHT, RIGHT + 1, FOOT, FOOT - 1, TOP, TOP + 1, i16::MIN, i16::MAX]);
-            bytes[at..at + 2].copy_from_slice(&edge.to_be_bytes());
-        }
-    }
-    if random.chance(50) {
-        bytes[44] = 1 + random.below(3) as u8;
-    }
-}
-
-// ---- what the writer is given
-
-/// A disk and support set, valid or not, and a buffer of any length up to 60.
-pub fn writer(random: &mut Random) -> WriterCase {
-    let room = random.pick(&[0, 1, 44, 45, 45, 45, 46, 50, 60]);
-    let disk = if random.chance(70) { valid_disk(random) } else { edge_disk(random) };
-    let mut support = valid_support(random);
-    match random.below(10) {
-        0 => support.reverse(),
-        1 => support = vec![support[0]; 1 + random.below(3)],
-        2 => support[0].x = random.pick(&[LEFT - 1, RIGHT + 1, i16::MIN, i16::MAX]),
-        3 => support[0].y = random.pick(&[FOOT - 1, TOP + 1, i16::MIN, i16::MAX]),
-        _ => (),
-    }
-    WriterCase { room, disk, support }
-}
-
 #[cfg(test)]
 mod tests {
     use super::*;
-    use crate::limits::RECORD_LENGTH;
     use crate::refusal::Refusal;
     use crate::{description::points_of, sheet::glyph};
 
     /// How often each refusal comes up, with 0 for none, in `count` cases.
-    fn seen(count: usize, mut refusal: impl FnMut(&mut Random) -> Option<Refusal>) -> [usize; 11] {
+    pub(super) fn seen(count: usize, mut refusal: impl FnMut(&mut Random) -> Option<Refusal>) -> [usize; 16] {
         let mut random = Random::new(7);
-        let mut times = [0; 11];
+        let mut times = [0; 16];
         for _ in 0..count {
             times[refusal(&mut random).map_or(0, |r| usize::from(r.number()))] += 1;
         }
@@ -381,32 +282,5 @@ mod tests {
         };
         let times = seen(5_000, opened);
         assert!([0, 6, 10].iter().all(|&number| times[number] > 500), "{times:?}");
-    }
-
-    #[test]
-    fn writers_are_refused_for_each_reason() {
-        let written = |random: &mut Random| {
-            let case = writer(random);
-            let mut buffer = vec![0; case.room.into()];
-            record::write(&case.disk, &case.support, &mut buffer).err()
-        };
-        let times = seen(5_000, written);
-        assert!([0, 7, 8].iter().all(|&number| times[number] > 500), "{times:?}");
-    }
-
-    #[test]
-    fn accepted_records_written_again_are_the_same_bytes() {
-        let mut random = Random::new(44);
-        let mut accepted = 0;
-        for _ in 0..20_000 {
-            let bytes = record(&mut random);
-            if let Ok((disk, support)) = record::read(&bytes) {
-                let mut again = [0; RECORD_LENGTH];
-                assert_eq!(record::write(&disk, &support, &mut again), Ok(()));
-                assert_eq!(again[..], bytes[..]);
-                accepted += 1;
-            }
-        }
-        assert!((5_000..15_000).contains(&accepted), "{accepted} of 20,000 accepted");
     }
 }

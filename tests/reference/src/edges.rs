@@ -3,10 +3,12 @@
 //! Each edge is a test of this implementation (below) and a stored case of the product ([`crate::stored`]). What must come out was
 //! worked out by no program.
 
+mod belonging;
 mod chosen;
 mod descriptions;
 mod drawings;
 mod hull;
+mod radii;
 mod records;
 mod sheets;
 mod traced;
@@ -133,23 +135,26 @@ mod tests {
     }
 
     #[test]
-    fn writer_and_cutting_radius_keep_to_them() {
+    fn writer_cutting_radius_and_preview_keep_to_them() {
         for Edge { says, given, gives } in writings() {
             let before = vec![0xAA; given.room.into()];
             let mut buffer = before.clone();
-            let answer = record::write(&given.disk, &given.support, &mut buffer).map_err(Refusal::number);
-            assert_eq!(answer, gives.written, "{says}");
-            let filled = if answer.is_ok() { record::bytes_of(&given.disk, &given.support) } else { vec![] };
+            let (disk, support) = (&given.disk, &given.support);
+            let answer = record::write(disk, support, &mut buffer).map_err(Refusal::number);
+            assert_eq!(answer, gives.written, "{says}: {disk:?} with {support:?}");
+            let filled = if answer.is_ok() { record::bytes_of(disk, support) } else { vec![] };
             assert_eq!(buffer, [&filled, &before[filled.len()..]].concat(), "{says}");
-            let radius = figures::whole_radius(&given.disk, &given.support).map_err(Refusal::number);
-            assert_eq!(radius, gives.radius, "{says}");
+            let radius = figures::whole_radius(disk, support).map_err(Refusal::number);
+            assert_eq!(radius, gives.radius, "{says}: {disk:?} with {support:?}");
+            let preview = figures::preview(disk, support).map_err(Refusal::number);
+            assert_eq!(preview.map(|seen| seen.radius), gives.radius.map(|radius| radius as f64), "{says}");
         }
     }
 
     #[test]
     fn the_record_reader_keeps_to_them() {
         for Edge { says, given, gives } in readings() {
-            assert_eq!(record::read(&given).map_err(Refusal::number), gives, "{says}");
+            assert_eq!(record::read(&given).map_err(Refusal::number), gives, "{says}: {given:?}");
         }
     }
 }

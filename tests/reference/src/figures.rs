@@ -4,7 +4,7 @@ use crate::geometry::{Disk, Point};
 use crate::record;
 use crate::refusal::Refusal;
 
-/// The least whole R with R²E² greater than S (document 01: the cutting radius): refusal 7.
+/// The least whole R with R²E² greater than S (document 01: the cutting radius): refusals 7, 15.
 pub fn whole_radius(disk: &Disk, support: &[Point]) -> Result<u64, Refusal> {
     record::check(disk, support)?;
     Ok(least_radius(disk))
@@ -24,7 +24,7 @@ pub struct Preview {
     pub radius: f64,
 }
 
-/// The preview: refusal 7. The numbers of a valid disk are far below 2⁵³, so the conversions lose nothing.
+/// The preview: refusals 7, 15. The numbers of a valid disk are far below 2⁵³, so the conversions lose nothing.
 pub fn preview(disk: &Disk, support: &[Point]) -> Result<Preview, Refusal> {
     let radius = whole_radius(disk, support)?;
     let e = disk.e as f64;
@@ -41,6 +41,7 @@ impl Preview {
 #[cfg(test)]
 mod tests {
     use super::*;
+    use crate::letters::points;
     use crate::{engine, lists};
 
     #[test]
@@ -59,7 +60,7 @@ mod tests {
     #[test]
     fn the_preview_of_letter_f() {
         let disk = Disk { x: 12, y: 5, e: 6, s: 169 };
-        let seen = preview(&disk, &[Point::new(0, 0)]).unwrap();
+        let seen = preview(&disk, &points(&[(0, 0), (2, 3), (4, 0)])).unwrap();
         assert_eq!(seen, Preview { x: 2.0, y: 5.0 / 6.0, radius: 3.0 });
     }
 
@@ -71,8 +72,11 @@ mod tests {
 
     #[test]
     fn what_no_record_holds_is_refused() {
-        let disk = Disk { x: 0, y: 0, e: 2, s: 0 };
-        assert_eq!(whole_radius(&disk, &[Point::new(0, 0)]), Err(Refusal::BadRecord));
-        assert_eq!(preview(&disk, &[Point::new(0, 0)]), Err(Refusal::BadRecord));
+        let halved = Disk { x: 0, y: 0, e: 2, s: 0 };
+        let around = Disk { x: 0, y: 0, e: 1, s: 1 };
+        for (disk, refusal) in [(halved, Refusal::BadRecord), (around, Refusal::PointsDoNotFit)] {
+            assert_eq!(whole_radius(&disk, &[Point::new(0, 0)]), Err(refusal));
+            assert_eq!(preview(&disk, &[Point::new(0, 0)]), Err(refusal));
+        }
     }
 }

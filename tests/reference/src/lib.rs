@@ -19,6 +19,7 @@
 //! | [`description`] | the loader |
 //! | [`drawing`] | points from a drawing program (document 02, item 2) |
 //! | [`sheet`] | the sheet opener |
+//! | [`belonging`] | whether points belong to a disk (document 02, item 9), by its words |
 //! | [`record`] | validity, writer and reader |
 //! | [`figures`] | the cutting radius and the preview |
 //! | [`listing`] | what the listing program prints |
@@ -30,6 +31,7 @@
 //! | [`vectors`] | a case of the test program for each call, in its layout |
 //! | [`stored`] | the stored cases |
 
+pub mod belonging;
 pub mod chosen;
 pub mod damage;
 pub mod definition;

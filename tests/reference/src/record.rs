@@ -1,17 +1,20 @@
-//! The record: validity, writer and reader (document 01, "Description, sheet, record"; document 02, item 4).
+//! The record: validity, writer and reader (document 01, "Description, sheet, record"; document 02, items 4 and 9).
 
+use crate::belonging::points_fit;
 use crate::geometry::{gcd, Disk, Point};
 use crate::limits::RECORD_LENGTH;
 use crate::refusal::Refusal;
 use crate::support::SupportSet;
 
-/// Whether a valid record can hold the disk and support set: refusal 7 if not.
+/// Whether a valid record can hold the disk and support set, and these belong together: refusals 7, 15.
 pub fn check(disk: &Disk, support: &[Point]) -> Result<(), Refusal> {
-    if is_valid_disk(disk) && is_valid_support(support) {
-        Ok(())
-    } else {
-        Err(Refusal::BadRecord)
+    if !is_valid_disk(disk) || !is_valid_support(support) {
+        return Err(Refusal::BadRecord);
     }
+    if !points_fit(disk, support) {
+        return Err(Refusal::PointsDoNotFit);
+    }
+    Ok(())
 }
 
 fn is_valid_disk(disk: &Disk) -> bool {
@@ -22,7 +25,7 @@ fn is_valid_support(support: &[Point]) -> bool {
     (1..=3).contains(&support.len()) && support.is_sorted_by(|a, b| a < b) && support.iter().all(|p| p.is_in_em_box())
 }
 
-/// Fills the first 45 bytes of the buffer: refusals 8, 7, and then the buffer is unchanged.
+/// Fills the first 45 bytes of the buffer: refusals 8, 7, 15, and then the buffer is unchanged.
 pub fn write(disk: &Disk, support: &[Point], buffer: &mut [u8]) -> Result<(), Refusal> {
     let Some(place) = buffer.get_mut(..RECORD_LENGTH) else {
         return Err(Refusal::NoRoom);
@@ -52,7 +55,7 @@ pub fn disk_and_points(disk: &Disk, support: &[Point]) -> Vec<u8> {
     bytes
 }
 
-/// The disk and support set of a record: refusal 7.
+/// The disk and support set of a record: refusals 7, 15.
 pub fn read(bytes: &[u8]) -> Result<(Disk, SupportSet), Refusal> {
     if bytes.len() != RECORD_LENGTH {
         return Err(Refusal::BadRecord);
@@ -112,22 +115,30 @@ mod tests {
         assert_eq!(read(&expected), Ok((F, f_support())));
     }
 
+    /// The first of the writer's checks that fails decides, and the buffer stays.
     #[test]
     fn refused_writes_change_nothing() {
-        let mut short = [1; 44];
         let bad = Disk { e: 0, ..F };
-        assert_eq!(write(&bad, &f_support(), &mut short), Err(Refusal::NoRoom));
-        assert_eq!(short, [1; 44]);
-        let mut buffer = [1; 45];
-        assert_eq!(write(&bad, &f_support(), &mut buffer), Err(Refusal::BadRecord));
-        assert_eq!(buffer, [1; 45]);
+        let [all, two] = [f_support(), f_support()[..2].to_vec()];
+        let cases = [
+            (44, bad, &two, Refusal::NoRoom),
+            (44, F, &two, Refusal::NoRoom),
+            (44, F, &all, Refusal::NoRoom),
+            (45, bad, &two, Refusal::BadRecord),
+            (45, F, &two, Refusal::PointsDoNotFit),
+        ];
+        for (room, disk, support, refusal) in cases {
+            let mut buffer = vec![1; room];
+            assert_eq!(write(&disk, support, &mut buffer), Err(refusal));
+            assert_eq!(buffer, vec![1; room]);
+        }
     }
 
     #[test]
     fn disks_at_the_limits() {
         let e = 2_000_000;
         let at_limit = Disk { x: 1, y: 750 * e, e, s: 500_000 * e * e };
-        let valid = |disk| check(&disk, &f_support()).is_ok();
+        let valid = |disk| check(&disk, &f_support()) != Err(Refusal::BadRecord);
         assert!(valid(at_limit));
         assert!(!valid(Disk { s: at_limit.s + 1, ..at_limit }));
         assert!(!valid(Disk { y: 750 * e + 1, ..at_limit }));
@@ -143,20 +154,22 @@ mod tests {
 
     #[test]
     fn only_the_last_point_is_repeated_and_the_count_agrees() {
-        let [a, b, c] = [Point::new(0, 0), Point::new(0, 1), Point::new(1, -1)];
-        let counted = |points: [Point; 3], count: u8| {
-            let mut bytes = bytes_of(&F, &points);
+        let [a, b, c] = [Point::new(0, 0), Point::new(2, 3), Point::new(4, 0)];
+        let counted = |disk: Disk, points: [Point; 3], count: u8| {
+            let mut bytes = bytes_of(&disk, &points);
             bytes[44] = count;
             read(&bytes).map(|(_, support)| support)
         };
         for count in 0..=255 {
             let only = |n, support: &[Point]| if count == n { Ok(support.to_vec()) } else { Err(Refusal::BadRecord) };
-            assert_eq!(counted([a, b, c], count), only(3, &[a, b, c]));
-            assert_eq!(counted([a, b, b], count), only(2, &[a, b]));
-            assert_eq!(counted([b, b, b], count), only(1, &[b]));
+            assert_eq!(counted(F, [a, b, c], count), only(3, &[a, b, c]));
+            assert_eq!(counted(Disk::of_two(a, b), [a, b, b], count), only(2, &[a, b]));
+            assert_eq!(counted(Disk::of_one(b), [b, b, b], count), only(1, &[b]));
             for faulty in [[a, a, b], [a, b, a], [b, a, a], [c, b, a], [a, c, b]] {
-                assert_eq!(counted(faulty, count), Err(Refusal::BadRecord));
+                assert_eq!(counted(Disk::of_two(a, b), faulty, count), Err(Refusal::BadRecord));
             }
+            let refusal = if count == 2 { Refusal::PointsDoNotFit } else { Refusal::BadRecord };
+            assert_eq!(counted(F, [a, b, b], count), Err(refusal));
         }
     }
 }

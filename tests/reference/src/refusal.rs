@@ -17,6 +17,7 @@ pub enum Refusal {
     NotInList = 12,
     NoDisk = 13,
     BadTolerance = 14,
+    PointsDoNotFit = 15,
 }
 
 impl Refusal {

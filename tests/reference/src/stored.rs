@@ -35,6 +35,7 @@ pub fn stored() -> Vec<Vector> {
     vectors.extend(stored_traced().iter().chain(&long_traced()).map(|list| traced(list)));
     vectors.extend(edges::reductions().into_iter().map(|edge| hull(edge.given)));
     vectors.extend(stored_for_hull().into_iter().chain(hull::long()).map(hull));
+    vectors.extend(stored_records());
     vectors
 }
 
@@ -52,10 +53,11 @@ pub fn drawn(seed: u64, count: usize) -> Vec<Vector> {
     vectors.extend(with_chosen(&mut random, count).iter().map(chosen));
     vectors.extend(drawn_traced(&mut random, count).iter().map(|list| traced(list)));
     vectors.extend(for_hull(&mut random, count).into_iter().map(hull));
+    vectors.extend(records(&mut random, count));
     vectors
 }
 
-/// `count` cases for each call from descriptions, sheets and records, many of them damaged.
+/// `count` cases for each call from descriptions, sheets and records, many of them damaged; the records have any numbers.
 fn damaged(random: &mut Random, count: usize) -> Vec<Vector> {
     let mut vectors = Vec::new();
     for _ in 0..count {
@@ -64,10 +66,19 @@ fn damaged(random: &mut Random, count: usize) -> Vec<Vector> {
         vectors.push(loader(&damage::loader(random)));
         vectors.push(open_sheet(&damage::sheet(random)));
         vectors.push(part(&damage::part(random)));
-        vectors.push(reader(damage::record(random)));
-        vectors.push(writer(&damage::writer(random)));
+        vectors.push(reader(damage::any_record(random)));
+        vectors.push(writer(&damage::any_writer(random)));
     }
     vectors
+}
+
+/// `count` records and as many cases for the writer, most of them of drawn lists, right and with faults.
+fn records(random: &mut Random, count: usize) -> Vec<Vector> {
+    (0..count).flat_map(|_| [reader(damage::record(random)), writer(&damage::writer(random))]).collect()
+}
+
+fn stored_records() -> Vec<Vector> {
+    records(&mut Random::new(10), 1_000)
 }
 
 /// `count` points from a drawing program, many of them faulty.
@@ -312,6 +323,20 @@ mod tests {
         assert!(kept.len() >= 8 && kept[0] <= 4 && kept[kept.len() - 1] == 344, "{kept:?}");
     }
 
+    /// The writer's answer is the line before the last.
+    #[test]
+    fn records_and_writers_with_every_kind_of_answer_are_among_the_cases() {
+        let answer = |vector: &Vector| {
+            let lines: Vec<&str> = vector.printed.lines().collect();
+            lines[if vector.call == Call::Reader { 0 } else { lines.len() - 2 }].to_string()
+        };
+        let vectors = stored_records();
+        let times = |call: Call, start: &str| vectors.iter().filter(|v| v.call == call && answer(v).starts_with(start)).count();
+        let read = ["disk", "refused 7", "refused 15"].map(|start| times(Call::Reader, start));
+        let written = ["written", "refused 7", "refused 8", "refused 15"].map(|start| times(Call::Writer, start));
+        assert!(read.iter().all(|&number| number >= 200) && written.iter().all(|&number| number >= 120), "{read:?} {written:?}");
+    }
+
     #[test]
     fn every_answer_and_every_refusal_is_among_the_cases() {
         let vectors = stored();
@@ -333,6 +358,7 @@ mod tests {
             NotInList,
             NoDisk,
             BadTolerance,
+            PointsDoNotFit,
         ] {
             let line = listing::refused(refusal);
             assert!(vectors.iter().any(|v| v.printed.contains(&line)), "{refusal:?}");

@@ -1,6 +1,6 @@
 //! Disks with their points for the writer and the cutting radius, and records for the reader.
 
-use super::{Answer, Edge};
+use super::{belonging, radii, Answer, Edge};
 use crate::geometry::Disk;
 use crate::inputs::WriterCase;
 use crate::letters::{points, LETTERS};
@@ -8,14 +8,16 @@ use crate::record;
 use crate::support::SupportSet;
 
 /// X, Y, E, S.
-type Numbers = (i128, i128, i128, i128);
+pub type Numbers = (i128, i128, i128, i128);
+
+pub type Points = &'static [(i16, i16)];
 
 const fn disk((x, y, e, s): Numbers) -> Disk {
     Disk { x, y, e, s }
 }
 
-const F: Numbers = (12, 5, 6, 169);
-const F_POINTS: &[(i16, i16)] = &[(0, 0), (2, 3), (4, 0)];
+pub const F: Numbers = (12, 5, 6, 169);
+pub const F_POINTS: Points = &[(0, 0), (2, 3), (4, 0)];
 
 /// What the writer and the cutting radius answer.
 pub struct Written {
@@ -23,9 +25,9 @@ pub struct Written {
     pub radius: Answer<u64>,
 }
 
-type Writing = Edge<WriterCase, Written>;
+pub type Writing = Edge<WriterCase, Written>;
 
-fn writing(
+pub fn writing(
     says: &'static str,
     room: u8,
     numbers: Numbers,
@@ -37,23 +39,35 @@ fn writing(
     Edge { says, given, gives: Written { written, radius } }
 }
 
-pub fn writings() -> Vec<Writing> {
-    let letters = LETTERS.iter().map(|l| writing("X Y E S; rim; R", 45, l.disk, l.support, Ok(()), Ok(l.radius)));
-    let valid = VALID.iter().map(|&(says, numbers, support, radius)| writing(says, 45, numbers, support, Ok(()), Ok(radius)));
-    let faulty = FAULTY.iter().map(|&(says, numbers, support)| writing(says, 45, numbers, support, Err(7), Err(7)));
-    letters.chain(valid).chain(faulty).chain(rooms()).chain(squares()).collect()
+pub type Reading = Edge<Vec<u8>, Answer<(Disk, SupportSet)>>;
+
+pub fn reading(says: &'static str, given: Vec<u8>, gives: Answer<(Numbers, &[(i16, i16)])>) -> Reading {
+    Edge { says, given, gives: gives.map(|(numbers, support)| (disk(numbers), points(support))) }
 }
 
+/// The record of a disk with one to three points, valid or not.
+pub fn bytes_of(numbers: Numbers, support: &[(i16, i16)]) -> Vec<u8> {
+    record::bytes_of(&disk(numbers), &points(support))
+}
+
+pub fn writings() -> Vec<Writing> {
+    let letters = LETTERS.iter().map(|l| writing("X Y E S; rim; R", 45, l.disk, l.support, Ok(()), Ok(l.radius)));
+    let valid = VALID.iter().map(|&(says, numbers, support)| writing(says, 45, numbers, support, Err(15), Err(15)));
+    let faulty = FAULTY.iter().map(|&(says, numbers, support)| writing(says, 45, numbers, support, Err(7), Err(7)));
+    letters.chain(valid).chain(faulty).chain(rooms()).chain(radii::writings()).chain(belonging::writings()).collect()
+}
+
+/// Valid up to the limits, so that 7 is not given; but the points belong to another disk.
 #[rustfmt::skip]
-const VALID: [(&str, Numbers, &[(i16, i16)], u64); 4] = [
-    ("the centre in the em box, S at most 500,000 × E²", (0, -250, 1, 500_000), &[(0, -250)], 708),
-    ("the centre in the em box", (1000, 750, 1, 1), &[(1000, 750)], 2),
-    ("E from 1 to 2,000,000, S at most 500,000 × E²", (1_999_999_999, -499_999_999, 2_000_000, 2_000_000_000_000_000_000), &[(0, -250), (1000, 750)], 708),
-    ("X, Y (signed); x and y 2 bytes each, signed", (1, -7, 3, 11), &[(3, -9), (3, -8), (4, -250)], 2),
+const VALID: [(&str, Numbers, Points); 4] = [
+    ("the centre in the em box, S at most 500,000 × E²", (0, -250, 1, 500_000), &[(0, -250)]),
+    ("the centre in the em box", (1000, 750, 1, 1), &[(1000, 750)]),
+    ("E from 1 to 2,000,000, S at most 500,000 × E²", (1_999_999_999, -499_999_999, 2_000_000, 2_000_000_000_000_000_000), &[(0, -250), (1000, 750)]),
+    ("X, Y (signed); x and y 2 bytes each, signed", (1, -7, 3, 11), &[(3, -9), (3, -8), (4, -250)]),
 ];
 
 #[rustfmt::skip]
-const FAULTY: [(&str, Numbers, &[(i16, i16)]); 26] = [
+const FAULTY: [(&str, Numbers, Points); 38] = [
     ("E from 1 to 2,000,000", (12, 5, 0, 0), F_POINTS),
     ("E from 1 to 2,000,000", (12, 5, 2_000_001, 169), F_POINTS),
     ("E from 1 to 2,000,000", (12, 5, u64::MAX as i128, 169), F_POINTS),
@@ -80,110 +94,106 @@ const FAULTY: [(&str, Numbers, &[(i16, i16)]); 26] = [
     ("corners in the em box", F, &[(0, 0), (2, 751), (4, 0)]),
     ("corners in the em box", F, &[(i16::MIN, 0)]),
     ("corners in the em box", F, &[(0, i16::MAX)]),
+    // the points are on the boundary and hold the disk in place, but are not in order or not in the em box
+    ("The corners rise strictly", F, &[(4, 0), (2, 3), (0, 0)]),
+    ("The corners rise strictly", F, &[(2, 3), (0, 0), (4, 0)]),
+    ("The corners rise strictly", (2, 0, 1, 4), &[(4, 0), (0, 0)]),
+    ("The corners rise strictly", (0, 250, 1, 250_000), &[(0, 750), (0, -250)]),
+    ("The corners rise strictly", (2, 0, 1, 4), &[(0, 0), (0, 0), (4, 0)]),
+    ("The corners rise strictly", (2, 0, 1, 4), &[(0, 0), (4, 0), (4, 0)]),
+    ("The corners rise strictly", (7, 7, 1, 0), &[(7, 7), (7, 7)]),
+    ("The corners rise strictly", (7, 7, 1, 0), &[(7, 7), (7, 7), (7, 7)]),
+    ("corners in the em box", (0, 0, 1, 1), &[(-1, 0), (1, 0)]),
+    ("corners in the em box", (1000, 0, 1, 1), &[(999, 0), (1001, 0)]),
+    ("corners in the em box", (0, -250, 1, 1), &[(0, -251), (0, -249)]),
+    ("corners in the em box", (0, 750, 1, 1), &[(0, 749), (0, 751)]),
 ];
 
-/// Letter F, and a disk with E 0, into buffers of other lengths.
+/// Letter F, a disk with E 0, and letter F without a point, into buffers of other lengths.
 fn rooms() -> impl Iterator<Item = Writing> {
-    let says = "Writer: 8, 7. It leaves the rest. The writer's buffer must have 45 bytes (02, item 4)";
+    let says = "Writer: 8, 7, then 15. It leaves the rest. The writer's buffer must have 45 bytes (02, items 4 and 9)";
+    let faulty = FAULTY[0].1;
+    let two = &F_POINTS[..2];
     let rows = [
-        (0, F, Err(8), Ok(3)),
-        (0, FAULTY[0].1, Err(8), Err(7)),
-        (44, F, Err(8), Ok(3)),
-        (44, FAULTY[0].1, Err(8), Err(7)),
-        (46, F, Ok(()), Ok(3)),
-        (50, F, Ok(()), Ok(3)),
-        (50, FAULTY[0].1, Err(7), Err(7)),
+        (0, F, F_POINTS, Err(8), Ok(3)),
+        (0, faulty, F_POINTS, Err(8), Err(7)),
+        (0, F, two, Err(8), Err(15)),
+        (44, F, F_POINTS, Err(8), Ok(3)),
+        (44, faulty, F_POINTS, Err(8), Err(7)),
+        (44, F, two, Err(8), Err(15)),
+        (46, F, F_POINTS, Ok(()), Ok(3)),
+        (50, F, F_POINTS, Ok(()), Ok(3)),
+        (50, faulty, F_POINTS, Err(7), Err(7)),
+        (50, F, two, Err(15), Err(15)),
+        (50, faulty, two, Err(7), Err(7)),
     ];
-    rows.into_iter().map(move |(room, numbers, written, radius)| writing(says, room, numbers, F_POINTS, written, radius))
+    rows.into_iter().map(move |(room, numbers, support, written, radius)| writing(says, room, numbers, support, written, radius))
 }
-
-/// Every whole radius that a valid disk can have: S at R²E², a step below it and a step above; some of them with a large E too.
-fn squares() -> impl Iterator<Item = Writing> {
-    let disks = (0..708).flat_map(|r| [(r, 0, 1), (r, 1, 2), (r, 1, 997)]);
-    let large = [0, 1, 2, 353, 706, 707].map(|r| (r, 1, 1_999_999));
-    disks.chain(large).flat_map(|(r, x, e)| beside_square(r, x, e))
-}
-
-/// The radius is R a step below S = R²E², and R + 1 there and a step above. But a step above 0, where E is 1, is the square of 1: 2.
-fn beside_square(r: u64, x: i128, e: i128) -> impl Iterator<Item = Writing> {
-    let says = "the cutting radius is the least whole R with R²E² greater than S (02, item 3)";
-    let square = (i128::from(r) * e).pow(2);
-    let above = if (r, e) == (0, 1) { 2 } else { r + 1 };
-    let rows = [(square - 1, r), (square, r + 1), (square + 1, above)].into_iter().filter(|&(s, _)| s >= 0);
-    rows.map(move |(s, radius)| writing(says, 45, (x, 0, e, s), &[(0, 0)], Ok(()), Ok(radius)))
-}
-
-type Reading = Edge<Vec<u8>, Answer<(Disk, SupportSet)>>;
 
 pub fn readings() -> Vec<Reading> {
-    let read = |numbers, support: &[(i16, i16)]| Ok((disk(numbers), points(support)));
-    let letters =
-        LETTERS.iter().map(|l| (l.disk, l.support)).chain(VALID.iter().map(|&(_, numbers, support, _)| (numbers, support)));
-    let written = letters.map(|(numbers, support)| {
-        let given = record::bytes_of(&disk(numbers), &points(support));
-        Edge {
-            says: "high byte first; if there are one or two, the last is repeated to make three; a 45th byte (02, item 4)",
-            given,
-            gives: read(numbers, support),
-        }
-    });
-    let changed = CHANGED.iter().map(|&(says, changes, gives)| Edge {
-        says,
-        given: f_record(changes),
-        gives: gives.map(|(numbers, support)| (disk(numbers), points(support))),
-    });
+    let says = "high byte first; if there are one or two, the last is repeated to make three; a 45th byte (02, item 4)";
+    let letters = LETTERS.iter().map(|l| reading(says, bytes_of(l.disk, l.support), Ok((l.disk, l.support))));
+    let valid = VALID.iter().map(|&(says, numbers, support)| reading(says, bytes_of(numbers, support), Err(15)));
+    let faulty = FAULTY.iter().map(|&(says, numbers, support)| reading(says, bytes_of(numbers, support), Err(7)));
+    let changed = CHANGED.iter().map(|&(says, changes, gives)| reading(says, f_record(changes), gives));
     let lengths = [0, 43, 44, 45, 46, 50].map(|length| {
         let mut given = f_record(&[]);
         given.resize(length, 0);
-        Edge { says: "7: any other length (02, item 4)", given, gives: if length == 45 { read(F, F_POINTS) } else { Err(7) } }
+        reading("7: any other length (02, item 4)", given, if length == 45 { Ok((F, F_POINTS)) } else { Err(7) })
     });
-    let unwritten = Edge { says: "7: a record .. not valid", given: vec![0xAA; 45], gives: Err(7) };
-    written.chain(changed).chain(lengths).chain([unwritten]).chain(counts()).collect()
+    let unwritten = reading("7: a record .. not valid", vec![0xAA; 45], Err(7));
+    let by_rule = letters.chain(valid).chain(faulty).chain(changed).chain(lengths).chain([unwritten]);
+    by_rule.chain(counts()).chain(belonging::readings()).collect()
 }
 
 /// Every value of the last byte against every kind of repeats.
 fn counts() -> impl Iterator<Item = Reading> {
     let says = "1, 2 or 3. A count that disagrees with the repeats is refused as 7 (02, item 4)";
-    let kinds: [([(i16, i16); 3], Option<u8>); 4] = [
-        ([(2, 3), (2, 3), (2, 3)], Some(1)),
-        ([(0, 0), (2, 3), (2, 3)], Some(2)),
-        ([(0, 0), (2, 3), (4, 0)], Some(3)),
-        ([(0, 0), (0, 0), (4, 0)], None),
+    let kinds = [
+        ((2, 3, 1, 0), [(2, 3), (2, 3), (2, 3)], Some(1)),
+        ((2, 3, 2, 13), [(0, 0), (2, 3), (2, 3)], Some(2)),
+        (F, [(0, 0), (2, 3), (4, 0)], Some(3)),
+        ((2, 0, 1, 4), [(0, 0), (0, 0), (4, 0)], None),
     ];
-    let every = kinds.into_iter().flat_map(|(three, meant)| (0..=255).map(move |count| (three, meant, count)));
-    every.map(move |(three, meant, count)| {
-        let mut given = record::bytes_of(&disk(F), &points(&three));
+    let every = kinds.into_iter().flat_map(|kind| (0..=255).map(move |count| (kind, count)));
+    every.map(move |((numbers, three, meant), count)| {
+        let mut given = bytes_of(numbers, &three);
         given[44] = count;
-        let gives = if meant == Some(count) { Ok((disk(F), points(&three[..count.into()]))) } else { Err(7) };
-        Edge { says, given, gives }
+        reading(says, given, if meant == Some(count) { Ok((numbers, &three[..count.into()])) } else { Err(7) })
     })
 }
 
 /// The record of letter F with new bytes at some places.
 fn f_record(changes: &[(usize, u8)]) -> Vec<u8> {
-    let mut bytes = record::bytes_of(&disk(F), &points(F_POINTS));
+    let mut bytes = bytes_of(F, F_POINTS);
     changes.iter().for_each(|&(place, byte)| bytes[place] = byte);
     bytes
 }
 
+/// Words, new bytes, and what is read.
+type Change = (&'static str, &'static [(usize, u8)], Answer<(Numbers, Points)>);
+
 #[rustfmt::skip]
-const CHANGED: [(&str, &[(usize, u8)], Answer<(Numbers, &[(i16, i16)])>); 26] = [
+const CHANGED: [Change; 30] = [
     ("no change", &[(0, 0)], Ok((F, F_POINTS))),
     ("the centre in the em box: X negative", &[(0, 0x80)], Err(7)),
     ("the centre in the em box: X beyond", &[(6, 0x18)], Err(7)),
-    ("the centre in the em box: another X", &[(6, 0x16)], Ok(((5644, 5, 6, 169), F_POINTS))),
+    ("the centre in the em box: another X, not of these points", &[(6, 0x16)], Err(15)),
+    ("the centre in the em box: another X, of other points", &[(6, 0x06), (32, 1), (36, 1), (40, 1)], Ok(((1548, 5, 6, 169), &[(256, 0), (258, 3), (260, 0)]))),
     ("the centre in the em box: Y negative", &[(8, 0xFF)], Err(7)),
     ("the centre in the em box: Y beyond", &[(14, 0x12)], Err(7)),
     ("the divisor rule", &[(15, 6)], Err(7)),
     ("E from 1", &[(23, 0)], Err(7)),
     ("E to 2,000,000", &[(20, 1)], Err(7)),
     ("S at most 500,000 × E²", &[(28, 2)], Err(7)),
-    ("S at most 500,000 × E²: another S", &[(31, 0xAA)], Ok(((12, 5, 6, 170), F_POINTS))),
+    ("S at most 500,000 × E²: another S, not of these points", &[(31, 0xAA)], Err(15)),
+    ("S at most 500,000 × E²: another S, of another point", &[(7, 4), (15, 3), (23, 2), (31, 25), (39, 4)], Ok(((4, 3, 2, 25), &[(0, 0), (2, 4), (4, 0)]))),
     ("The corners rise strictly: the first x beyond the second", &[(33, 3)], Err(7)),
     ("corners in the em box: the first x", &[(32, 0x80)], Err(7)),
     ("corners in the em box: the first y", &[(34, 3)], Err(7)),
     ("The corners rise strictly: the second x beyond the third", &[(37, 5)], Err(7)),
-    ("The corners rise strictly: by y where x is the same", &[(37, 0)], Ok((F, &[(0, 0), (0, 3), (4, 0)]))),
+    ("The corners rise strictly: by y where x is the same, but with another disk", &[(37, 0)], Err(15)),
+    ("The corners rise strictly: by y where x is the same", &[(7, 7), (15, 24), (23, 8), (30, 2), (31, 0x71), (37, 0), (39, 6), (43, 3)], Ok(((7, 24, 8, 625), &[(0, 0), (0, 6), (4, 3)]))),
     ("corners in the em box: the second y beyond", &[(38, 3)], Err(7)),
     ("corners in the em box: the second y negative", &[(38, 0xFF)], Err(7)),
     ("corners in the em box: the third x", &[(40, 4)], Err(7)),
@@ -192,6 +202,7 @@ const CHANGED: [(&str, &[(usize, u8)], Answer<(Numbers, &[(i16, i16)])>); 26] = 
     ("corners in the em box: the third y least", &[(42, 0x80)], Err(7)),
     ("the last is repeated: no other may be", &[(37, 0), (39, 0)], Err(7)),
     ("the last is repeated: no other may be, whatever the count", &[(37, 0), (39, 0), (44, 2)], Err(7)),
-    ("the last is repeated: the second here, with its count", &[(37, 4), (39, 0), (44, 2)], Ok((F, &[(0, 0), (4, 0)]))),
+    ("the last is repeated: the second here, with its count, but with another disk", &[(37, 4), (39, 0), (44, 2)], Err(15)),
+    ("the last is repeated: the second here, with its count", &[(7, 2), (15, 0), (23, 1), (31, 4), (37, 4), (39, 0), (44, 2)], Ok(((2, 0, 1, 4), &[(0, 0), (4, 0)]))),
     ("the last is repeated: the second here, with the count of three", &[(37, 4), (39, 0)], Err(7)),
 ];

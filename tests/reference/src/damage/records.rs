@@ -1,0 +1,313 @@
+//! Drawn records, and disks with points for the writer: from lists, right or with a single fault, and with any numbers within the limits.
+
+use crate::engine::{self, Answer};
+use crate::geometry::{gcd, Disk, Point};
+use crate::inputs::WriterCase;
+use crate::limits::{FOOT, LEFT, MOST_E, MOST_SQUARE, RIGHT, TOP};
+use crate::lists::{self, Kind, KINDS};
+use crate::random::Random;
+use crate::record;
+use crate::smallest::smallest_disk;
+use crate::support::{distinct, SupportSet};
+
+// ---- disks and points that belong together
+
+/// A record: in four of five cases of a drawn list, right or with a single fault, and then with damaged bytes in five of twelve; else with
+/// any numbers.
+pub fn record(random: &mut Random) -> Vec<u8> {
+    if random.chance(20) {
+        return any_record(random);
+    }
+    let (disk, support) = drawn_pair(random);
+    let mut bytes = record::bytes_of(&disk, &support);
+    let way = random.below(WAYS);
+    damage_bytes(&mut bytes, way, random);
+    bytes
+}
+
+/// What the writer is given: the same, with damaged points in four of ten cases, and a buffer of any length up to 60.
+pub fn writer(random: &mut Random) -> WriterCase {
+    if random.chance(20) {
+        return any_writer(random);
+    }
+    let room = drawn_room(random);
+    let (disk, mut support) = drawn_pair(random);
+    damage_support(&mut support, random);
+    WriterCase { room, disk, support }
+}
+
+/// A disk and points that belong together, or in four cases of ten with a single fault.
+fn drawn_pair(random: &mut Random) -> (Disk, SupportSet) {
+    let points = short_list(random);
+    let (disk, support) = fitting(&points, random);
+    match random.below(10) {
+        0 => (smallest_disk(&short_list(random)), support),
+        1..4 => {
+            let others = &points[..points.len().min(2)];
+            let faults = single_faults(&disk, &support, others);
+            faults[random.below(faults.len())].clone()
+        }
+        _ => (disk, support),
+    }
+}
+
+/// Up to 12 points of any kind, or up to 40 of a common circle, which may have many sets that fit.
+fn short_list(random: &mut Random) -> Vec<Point> {
+    let (kind, most) = if random.chance(25) { (Kind::Circle, 40) } else { (random.pick(&KINDS), 12) };
+    let n = 1 + random.below(most);
+    lists::draw(kind, n, random)
+}
+
+/// The smallest disk of the points, with the first support set or with any other set that fits: what is left when points go, one after
+/// another in any order, as long as the disk stays.
+fn fitting(points: &[Point], random: &mut Random) -> (Disk, SupportSet) {
+    let Answer { disk, support, .. } = engine::solve(&mut engine::flat(points)).expect("a short list in the em box");
+    if random.chance(50) {
+        return (disk, support);
+    }
+    let mut left = distinct(points);
+    random.shuffle(&mut left);
+    for p in left.clone() {
+        let without: Vec<Point> = left.iter().copied().filter(|&q| q != p).collect();
+        if !without.is_empty() && smallest_disk(&without) == disk {
+            left = without;
+        }
+    }
+    (disk, distinct(&left))
+}
+
+/// X, Y, E, S or a coordinate of a point a step away; a point left out; one of the others in a point's place, or added to them.
+pub fn single_faults(disk: &Disk, support: &[Point], others: &[Point]) -> Vec<(Disk, SupportSet)> {
+    let Disk { x, y, e, s } = *disk;
+    let steps = [-1, 1].map(|step| [(x + step, y, e, s), (x, y + step, e, s), (x, y, e + step, s), (x, y, e, s + step)]);
+    let disks = steps.into_iter().flatten().filter(|&(.., s)| s >= 0).map(|(x, y, e, s)| Disk { x, y, e, s });
+    let sets = sets_with_single_faults(support, others);
+    disks.map(|other| (other, support.to_vec())).chain(sets.into_iter().map(|set| (*disk, set))).collect()
+}
+
+fn sets_with_single_faults(support: &[Point], others: &[Point]) -> Vec<SupportSet> {
+    let with = |i: usize, p: &[Point]| [&support[..i], p, &support[i + 1..]].concat();
+    let rising = |mut set: SupportSet| {
+        set.sort_unstable();
+        set
+    };
+    let mut sets = Vec::new();
+    for (i, p) in support.iter().enumerate() {
+        let beside = [(-1, 0), (1, 0), (0, -1), (0, 1)].map(|(dx, dy)| Point::new(p.x + dx, p.y + dy));
+        sets.extend(beside.map(|q| with(i, &[q])));
+        sets.extend((support.len() > 1).then(|| with(i, &[])));
+        sets.extend(others.iter().map(|&q| rising(with(i, &[q]))));
+    }
+    if support.len() < 3 {
+        sets.extend(others.iter().map(|&q| rising([support, &[q]].concat())));
+    }
+    sets.retain(|set| set != support);
+    sets
+}
+
+// ---- any numbers
+
+/// A record of a disk and points that hardly ever belong together: valid in about half of the cases, otherwise wrong in a field, in its
+/// points' order, in their count or in its length.
+pub fn any_record(random: &mut Random) -> Vec<u8> {
+    let mut bytes = record::bytes_of(&valid_disk(random), &valid_support(random));
+    match random.below(WAYS) {
+        4 => bytes = record::bytes_of(&edge_disk(random), &valid_support(random)),
+        way => damage_bytes(&mut bytes, way, random),
+    }
+    bytes
+}
+
+/// How many ways there are to damage a record; most of them leave it as it is.
+const WAYS: usize = 12;
+
+/// A number, the points, a bit, the length or the count, each by its way.
+fn damage_bytes(bytes: &mut Vec<u8>, way: usize, random: &mut Random) {
+    match way {
+        0 => damage_word(bytes, random),
+        1 => damage_points(bytes, random),
+        2 => {
+            let at = random.below(bytes.len());
+            bytes[at] ^= 1 << random.below(8);
+        }
+        3 => bytes.resize(random.pick(&[0, 1, 44, 46, 90]), 0),
+        5 => bytes[44] = random.pick(&[0, 1, 2, 3, 4, 255]),
+        _ => (),
+    }
+}
+
+/// Wherever in the rules' limits.
+fn valid_disk(random: &mut Random) -> Disk {
+    let limit = random.pick(&[1, 2, 6, 1_000, MOST_E as i64]);
+    let e = random.between(1, limit);
+    let x = random.between(i64::from(LEFT) * e, i64::from(RIGHT) * e);
+    let y = random.between(i64::from(FOOT) * e, i64::from(TOP) * e);
+    let disk = Disk { x: x.into(), y: y.into(), e: e.into(), s: 0 };
+    let divisor = gcd(gcd(disk.x, disk.y), disk.e);
+    let e = disk.e / divisor;
+    let s = random.between(0, (MOST_SQUARE * e * e) as i64).into();
+    Disk { x: disk.x / divisor, y: disk.y / divisor, e, s }
+}
+
+/// A disk at a limit or a step beyond it.
+fn edge_disk(random: &mut Random) -> Disk {
+    let e = random.pick(&[0, 1, 2, MOST_E - 1, MOST_E, MOST_E + 1]);
+    let step = i128::from(random.between(-1, 1));
+    let [left, right, foot, top] = [LEFT, RIGHT, FOOT, TOP].map(|edge| i128::from(edge) * e);
+    let x = random.pick(&[left, 1, right, right + step, left + step]);
+    let y = random.pick(&[1, foot, foot + step, top, top + step]);
+    let largest = MOST_SQUARE * e * e;
+    let s = random.pick(&[0, largest, (largest + step).max(0)]);
+    Disk { x, y, e, s }
+}
+
+/// One to three different points in rising order.
+fn valid_support(random: &mut Random) -> SupportSet {
+    let n = 1 + random.below(3);
+    let kind = random.pick(&[Kind::Uniform, Kind::SmallBox, Kind::Edges]);
+    distinct(&lists::draw(kind, n, random))
+}
+
+/// X, Y, E or S replaced by a number at the ends of its type, or moved a step.
+fn damage_word(bytes: &mut [u8], random: &mut Random) {
+    let at = 8 * random.below(4);
+    let old = u64::from_be_bytes(bytes[at..at + 8].try_into().expect("eight bytes"));
+    let ends = [0, 1, u64::MAX, 1 << 63, i64::MAX as u64, random.word()];
+    let steps = [old.wrapping_add(1), old.wrapping_sub(1), old.wrapping_neg(), old << 1];
+    let new = if random.chance(50) { random.pick(&ends) } else { random.pick(&steps) };
+    bytes[at..at + 8].copy_from_slice(&new.to_be_bytes());
+}
+
+/// Two points swapped, one copied over another, or a coordinate outside the em box or near its edge; then, in half of the cases, a
+/// count from 1 to 3.
+fn damage_points(bytes: &mut [u8], random: &mut Random) {
+    let (i, j) = (32 + 4 * random.below(3), 32 + 4 * random.below(3));
+    match random.below(3) {
+        0 => (0..4).for_each(|byte| bytes.swap(i + byte, j + byte)),
+        1 => bytes.copy_within(i..i + 4, j),
+        _ => {
+            let at = i + 2 * random.below(2);
+            let edge: i16 = random.pick(&[LEFT - 1, LEFT, RIGHT, RIGHT + 1, FOOT, FOOT - 1, TOP, TOP + 1, i16::MIN, i16::MAX]);
+            bytes[at..at + 2].copy_from_slice(&edge.to_be_bytes());
+        }
+    }
+    if random.chance(50) {
+        bytes[44] = 1 + random.below(3) as u8;
+    }
+}
+
+/// A disk and points that hardly ever belong together, valid or not, and a buffer of any length up to 60.
+pub fn any_writer(random: &mut Random) -> WriterCase {
+    let room = drawn_room(random);
+    let disk = if random.chance(70) { valid_disk(random) } else { edge_disk(random) };
+    let mut support = valid_support(random);
+    damage_support(&mut support, random);
+    WriterCase { room, disk, support }
+}
+
+fn drawn_room(random: &mut Random) -> u8 {
+    random.pick(&[0, 1, 44, 45, 45, 45, 46, 50, 60])
+}
+
+/// In four of ten cases the points in falling order, the first one again and again, or a coordinate outside the em box.
+fn damage_support(support: &mut SupportSet, random: &mut Random) {
+    match random.below(10) {
+        0 => support.reverse(),
+        1 => *support = vec![support[0]; 1 + random.below(3)],
+        2 => support[0].x = random.pick(&[LEFT - 1, RIGHT + 1, i16::MIN, i16::MAX]),
+        3 => support[0].y = random.pick(&[FOOT - 1, TOP + 1, i16::MIN, i16::MAX]),
+        _ => (),
+    }
+}
+
+#[cfg(test)]
+mod tests {
+    use super::*;
+    use crate::belonging::points_fit;
+    use crate::damage::tests::seen;
+    use crate::letters::points;
+    use crate::limits::RECORD_LENGTH;
+    use crate::refusal::Refusal;
+
+    fn refused_to_write(case: WriterCase) -> Option<Refusal> {
+        let mut buffer = vec![0; case.room.into()];
+        record::write(&case.disk, &case.support, &mut buffer).err()
+    }
+
+    #[test]
+    fn records_and_writers_are_refused_for_each_reason() {
+        let times = seen(5_000, |random| record::read(&record(random)).err());
+        assert!([0, 7, 15].iter().all(|&number| times[number] > 1_000), "{times:?}");
+        let times = seen(5_000, |random| refused_to_write(writer(random)));
+        assert!([0, 7, 8, 15].iter().all(|&number| times[number] > 600), "{times:?}");
+    }
+
+    #[test]
+    fn any_numbers_are_refused() {
+        let times = seen(5_000, |random| record::read(&any_record(random)).err());
+        assert!([7, 15].iter().all(|&number| times[number] > 1_000), "{times:?}");
+        let times = seen(5_000, |random| refused_to_write(any_writer(random)));
+        assert!([7, 8, 15].iter().all(|&number| times[number] > 600), "{times:?}");
+    }
+
+    #[test]
+    fn the_single_faults_of_letter_c() {
+        let disk = |[x, y, e, s]: [i128; 4]| Disk { x, y, e, s };
+        let letter = [2, 0, 1, 4];
+        let steps = (0..4).flat_map(|i| [-1, 1].map(|step| (i, step))).map(|(i, step)| {
+            let mut numbers = letter;
+            numbers[i] += step;
+            (disk(numbers), points(&[(0, 0), (4, 0)]))
+        });
+        let sets: [&[(i16, i16)]; 13] = [
+            &[(-1, 0), (4, 0)],
+            &[(1, 0), (4, 0)],
+            &[(0, -1), (4, 0)],
+            &[(0, 1), (4, 0)],
+            &[(0, 0), (3, 0)],
+            &[(0, 0), (5, 0)],
+            &[(0, 0), (4, -1)],
+            &[(0, 0), (4, 1)],
+            &[(0, 0)],
+            &[(4, 0)],
+            &[(0, 0), (2, 1)],
+            &[(2, 1), (4, 0)],
+            &[(0, 0), (2, 1), (4, 0)],
+        ];
+        let expected: Vec<(Disk, SupportSet)> = steps.chain(sets.map(|set| (disk(letter), points(set)))).collect();
+        let faults = single_faults(&disk(letter), &points(&[(0, 0), (4, 0)]), &points(&[(2, 1)]));
+        assert!(faults.len() == 21 && expected.iter().all(|fault| faults.contains(fault)), "{faults:?}");
+    }
+
+    /// Points, pairs and triples, many of them not the first set of their list.
+    #[test]
+    fn sets_that_fit_are_of_every_size_and_often_not_the_first() {
+        let mut random = Random::new(9);
+        let (mut sizes, mut others) = ([0; 4], [0; 4]);
+        for _ in 0..5_000 {
+            let list = short_list(&mut random);
+            let (disk, support) = fitting(&list, &mut random);
+            assert!(points_fit(&disk, &support), "{disk:?} with {support:?}");
+            sizes[support.len()] += 1;
+            others[support.len()] += usize::from(support != engine::solve(&mut engine::flat(&list)).unwrap().support);
+        }
+        assert!(sizes[1..].iter().all(|&number| number > 300), "{sizes:?}");
+        assert!(others[2..].iter().all(|&number| number > 40), "{others:?}");
+    }
+
+    #[test]
+    fn accepted_records_written_again_are_the_same_bytes() {
+        let mut random = Random::new(44);
+        let mut accepted = 0;
+        for _ in 0..20_000 {
+            let bytes = record(&mut random);
+            if let Ok((disk, support)) = record::read(&bytes) {
+                let mut again = [0; RECORD_LENGTH];
+                assert_eq!(record::write(&disk, &support, &mut again), Ok(()));
+                assert_eq!(again[..], bytes[..]);
+                accepted += 1;
+            }
+        }
+        assert!((5_000..15_000).contains(&accepted), "{accepted} of 20,000 accepted");
+    }
+}
