@@ -21,7 +21,7 @@ mod tests {
     use crate::geometry::scalar;
     use crate::limits::RECORD_LENGTH;
     use crate::refusal::Refusal;
-    use crate::support::distinct;
+    use crate::support::{distinct, sets};
     use crate::{engine, figures, lists, record};
     use std::cmp::Ordering::{self, Equal, Greater, Less};
     use std::collections::BTreeMap;
@@ -51,19 +51,6 @@ mod tests {
         let fit = points_fit(disk, points);
         assert_eq!(fit, on_boundary && holds == Greater, "{disk:?} with {points:?}");
         fit
-    }
-
-    /// The sets of one to three of the points, which rise strictly.
-    fn sets(points: &[Point]) -> Vec<Vec<Point>> {
-        let mut all = vec![];
-        for (i, &a) in points.iter().enumerate() {
-            all.push(vec![a]);
-            for (j, &b) in points.iter().enumerate().skip(i + 1) {
-                all.push(vec![a, b]);
-                all.extend(points[j + 1..].iter().map(|&c| vec![a, b, c]));
-            }
-        }
-        all
     }
 
     /// The smallest disk of the points, which rise strictly, those of the first ones alone, the circle of the first three, and disks about

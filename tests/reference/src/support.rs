@@ -26,6 +26,19 @@ pub fn distinct(points: &[Point]) -> Vec<Point> {
     points
 }
 
+/// Every set of one to three of the points, which rise strictly.
+pub fn sets(points: &[Point]) -> Vec<SupportSet> {
+    let mut all = vec![];
+    for (i, &a) in points.iter().enumerate() {
+        all.push(vec![a]);
+        for (j, &b) in points.iter().enumerate().skip(i + 1) {
+            all.push(vec![a, b]);
+            all.extend(points[j + 1..].iter().map(|&c| vec![a, b, c]));
+        }
+    }
+    all
+}
+
 /// Sets of one, then two, then three of the points, which rise strictly, each size in rising order.
 fn first_among(points: &[Point], disk: &Disk) -> SupportSet {
     (1..=3)

@@ -2,9 +2,11 @@
 //! every damage to it gets what the reference says.
 
 use super::{compare_figures, compare_reader, compare_writer, lent, ours};
+use reference::damage::single_faults;
 use reference::engine::{flat, solve};
 use reference::geometry::{scalar, Disk as ExpectedDisk, Point as ExpectedPoint};
 use reference::limits::{FOOT, LEFT, MOST_E, MOST_SQUARE, RIGHT, TOP};
+use reference::support::sets;
 use reference::{letters, lists, record};
 use std::collections::BTreeMap;
 use volkhidar::*;
@@ -53,22 +55,7 @@ fn answers_of_the_engine_pass() {
     assert!(times[1..].iter().all(|&number| number > 1_000), "{times:?}");
 }
 
-/// One number of the disk or one coordinate of a point a step away; one point left out; one of the others in a point's place or added.
-fn damaged(disk: &ExpectedDisk, set: &[ExpectedPoint], others: &[ExpectedPoint]) -> Vec<(ExpectedDisk, Vec<ExpectedPoint>)> {
-    let ExpectedDisk { x, y, e, s } = *disk;
-    let disks = [-1, 1].map(|d| [(x + d, y, e, s), (x, y + d, e, s), (x, y, e + d, s), (x, y, e, s + d)]);
-    let mut all: Vec<_> = disks.concat().into_iter().map(|numbers| (disk_with(numbers), set.to_vec())).collect();
-    let put = |i: usize, p| [&set[..i], &[p], &set[i + 1..]].concat();
-    for (i, p) in set.iter().enumerate() {
-        let beside = [(-1, 0), (1, 0), (0, -1), (0, 1)].map(|(dx, dy)| ExpectedPoint::new(p.x + dx, p.y + dy));
-        all.extend(beside.map(|q| (*disk, put(i, q))));
-        all.push((*disk, [&set[..i], &set[i + 1..]].concat()));
-        all.extend(others.iter().map(|&q| (*disk, rising(put(i, q)))));
-    }
-    all.extend(others.iter().map(|&q| (*disk, rising([set, &[q]].concat()))));
-    all
-}
-
+/// Nearly all are refused; in a few another point of the boundary took one's place and belongs to the disk as well.
 #[test]
 fn answers_of_the_engine_damaged() {
     let mut times = [0; 16];
@@ -76,14 +63,14 @@ fn answers_of_the_engine_damaged() {
         let answer = solve(&mut flat(&case.points)).unwrap();
         let (on_boundary, inside): (Vec<_>, Vec<_>) = case.points.iter().partition(|&&p| answer.disk.has_on_boundary(p));
         let others = [&on_boundary[..], &inside[..inside.len().min(3)]].concat();
-        for (disk, set) in damaged(&answer.disk, &answer.support, &others) {
+        for (disk, set) in single_faults(&answer.disk, &answer.support, &others) {
             let name = format!("{disk:?} with {set:?}, {}", case.name);
             if let Some(number) = compare_calls(&disk, &set, &name) {
                 times[usize::from(number)] += 1;
             }
         }
     }
-    assert!([0, 7, 15].iter().all(|&number| times[number] > 5_000), "{times:?}");
+    assert!(times[0] > 200 && times[7] > 20_000 && times[15] > 50_000, "{times:?}");
 }
 
 /// Nearly all are refused, with 7 or 15; in a few the points are others and belong to the disk all the same.
@@ -130,19 +117,6 @@ const CIRCLES: [Numbers; 9] = [
     (999, 749, 1, 5_525),
     (12, 5, 6, 169),
 ];
-
-/// Every set of one to three of the points, which rise strictly.
-fn sets(points: &[ExpectedPoint]) -> Vec<Vec<ExpectedPoint>> {
-    let mut all = vec![];
-    for (i, &a) in points.iter().enumerate() {
-        all.push(vec![a]);
-        for (j, &b) in points.iter().enumerate().skip(i + 1) {
-            all.push(vec![a, b]);
-            all.extend(points[j + 1..].iter().map(|&c| vec![a, b, c]));
-        }
-    }
-    all
-}
 
 /// By the reference, and by the angles.
 #[test]
@@ -276,7 +250,7 @@ fn a_disk_with_a_large_e() {
     let answer = solve(&mut flat(&list)).unwrap();
     assert_eq!((answer.disk.e, answer.support.len()), (1_999_994, 3));
     assert_eq!(compare_calls(&answer.disk, &answer.support, "as it is"), Some(0));
-    for (disk, set) in damaged(&answer.disk, &answer.support, &[]) {
+    for (disk, set) in single_faults(&answer.disk, &answer.support, &[]) {
         let name = format!("{disk:?} with {set:?}");
         assert_ne!(compare_calls(&disk, &set, &name), Some(0), "{name}");
     }
