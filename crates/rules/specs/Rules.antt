@@ -15,6 +15,7 @@
 --                         call that reduces a list to its hull has engineRow
 --
 -- `Inside em p`: x is from 0 to 1000 and y from −250 to 750 (geometry/specs/EmBox.antt, which has every limit of points and disks).
+-- `Belong d ps`: the points ps belong to the disk d (belonging/specs/Belonging.antt).
 use mathlib.Core.Path.{_≡_}
 use mathlib.Core.List.{List, [], _∷_, _++_, List·Memᴰ}
 use Prim.Native.Nat.{ℕ, suc, _+_, _%_, _≤_, _<_}
