@@ -26,6 +26,7 @@ use Rattle.disks.proofs.Welzl.{smallest}
 use Rattle.engine.specs.Engine.{enclosure, encloseOf}
 use Rattle.belonging.specs.Belonging.{Belong}
 use Rattle.belonging.proofs.Meaning.{none-smallest}
+use Rattle.belonging.proofs.Known.{tested-one, tested-two, tested-three}
 use Rattle.belonging.proofs.Answers.{own-first, only-support, own-answer, own-support}
 use Rattle.disk_checks.specs.Checks.{checkOf}
 use Rattle.record_writer.specs.Layout.{recordLength}
@@ -102,6 +103,9 @@ fitting-points = record {
   another-or-none = left-out;
   none = λ d. none-smallest;
   one-disk = λ d c ps b k. smallest-same (same-refl ps) (same-refl []) (b .own) (k .own);
+  one = λ d a r. tested-one d a (recordable-valid d (a ∷ []) r);
+  two = λ d a b r. tested-two d a b (recordable-valid d (a ∷ b ∷ []) r);
+  three = λ d a b c r. tested-three d a b c (recordable-valid d (a ∷ b ∷ c ∷ []) r);
   fails = fails;
   engine = λ l e h. checked-rules (e .disk) (e .support) (checked-enclosure l e h) .1;
   letter = letter;

@@ -7,12 +7,14 @@
 --   FittingPoints   == all that item 9 says
 --
 -- `Belong d ps` (belonging/specs/Belonging.antt): ps belong to d, which is the item's sentence over the smallest disk of demand 2.
+-- `onBoundaryTest`, `opposite`, `acute` (support_tests/specs/Tests.antt): these tests of coordinates.
 -- `WorkedOut l bs` (claims/specs/Demand3.antt): bs is a record worked out for the accepted list l.
 use mathlib.Core.Path.{_≡_}
 use mathlib.Core.Logic.{_↔_, _⊎_}
-use mathlib.Core.Bool.{true}
+use mathlib.Core.Bool.{true, _&&_}
 use mathlib.Core.List.{List, [], _∷_, _++_}
 use Prim.Native.Nat.{ℕ, _≤_}
+use lib.Dec.{eqb}
 use lib.IntN.{ℤ}
 use lib.ListN.{length}
 use Rattle.answers.specs.Outcome.{given, refused}
@@ -21,6 +23,7 @@ use Rattle.geometry.specs.declared.Disk.{Disk}
 use Rattle.geometry.specs.Points.{flat}
 use Rattle.disks.specs.Smallest.{Smallest}
 use Rattle.disks.specs.FirstSupport.{IsSupport, IsFirstSupport}
+use Rattle.support_tests.specs.Tests.{onBoundaryTest, opposite, acute}
 use Rattle.engine.specs.Engine.{Enclosure, encloseOf}
 use Rattle.belonging.specs.Belonging.{belongs, Belong}
 use Rattle.radius.specs.Radius.{radiusOf}
@@ -53,6 +56,12 @@ pub record FittingPoints : Type 0 where
   pub none : (d : Disk) → Smallest [] d → ⊥
   -- so points belong to one disk at most
   pub one-disk : (d c : Disk) (ps : List Point) → Belong d ps → Belong c ps → d ≡ c
+  -- and of what a valid record can hold, one point is the disk itself, two are the ends of a diameter, three are on the boundary with acute angles only
+  pub one : (d : Disk) (a : Point) → Recordable d (a ∷ []) → belongs d (a ∷ []) ≡ (onBoundaryTest d a && eqb (d .s) 0)
+  pub two : (d : Disk) (a b : Point) → Recordable d (a ∷ b ∷ []) → belongs d (a ∷ b ∷ []) ≡ (onBoundaryTest d a && opposite d a b)
+  pub three :
+      (d : Disk) (a b c : Point) → Recordable d (a ∷ b ∷ c ∷ [])
+      → belongs d (a ∷ b ∷ c ∷ []) ≡ (onBoundaryTest d a && (onBoundaryTest d b && (onBoundaryTest d c && acute a b c)))
   -- "Reader, writer, cutting radius and preview now test it: .. 15 when it fails"
   pub fails : (d : Disk) (ps : List Point) → Recordable d ps → (Belong d ps → ⊥) → Unfit d ps
   -- "Every record made from a letter still passes.": the engine's points belong to its disk; a record worked out is read as these, from a description too
