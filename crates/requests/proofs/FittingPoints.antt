@@ -2,7 +2,8 @@
 --
 --   left-out        : points that belong have another smallest disk where one of them is left out, or none is left
 --   fails           : points that do not belong are refused as 15
---   own-record      : what the reader takes is the record worked out for the named points alone
+--   taken, named    : what the checks pass, and so what is read, is the engine's answer for the named points alone
+--   own-record      : the bytes that are read are the record worked out for these
 --   fitting-points  : FittingPoints
 use mathlib.Core.Path.{_≡_, refl, sym, _∙_, ap, ap₂, subst}
 use mathlib.Core.Logic.{_⊎_, inl, inr}
@@ -20,10 +21,9 @@ use Rattle.geometry.proofs.EmBox.{inside-all}
 use Rattle.point_lists.proofs.Sets.{same-refl}
 use Rattle.disks.specs.Smallest.{Smallest}
 use Rattle.disks.specs.Procedure.{diskOf}
-use Rattle.disks.specs.Support.{firstSupport}
 use Rattle.disks.proofs.OneWriting.{smallest-same}
 use Rattle.disks.proofs.Welzl.{smallest}
-use Rattle.engine.specs.Engine.{enclosure, encloseOf}
+use Rattle.engine.specs.Engine.{enclosure}
 use Rattle.belonging.specs.Belonging.{Belong}
 use Rattle.belonging.proofs.Meaning.{none-smallest}
 use Rattle.belonging.proofs.Known.{tested-one, tested-two, tested-three}
@@ -71,31 +71,29 @@ fails d ps r n =
 letter : (l : List ℤ) (bs : List ℕ) (w : WorkedOut l bs) → readOf bs ≡ given (w .answer .disk, w .answer .support)
 letter l bs w = ap readOf (w .filled) ∙ demand-two .records .read-back (w .answer .disk) (w .answer .support) (w .buffer) (w .written)
 
-module _ (bs : List ℕ) (d : Disk) (ps : List Point) (h : readOf bs ≡ given (d, ps)) where
-  rules : Recordable d ps × Belong d ps
-  rules = checked-rules d ps (accepted bs d ps h .fine)
+-- what the checks pass: the engine's answer for the points alone is this disk and these points
+taken : (d : Disk) (ps : List Point) → Recordable d ps → Belong d ps → Fixing d ps
+taken d ps r b = record {
+  smallest = b .own;
+  first-support = own-first b (r .rises) (r .some) (r .most);
+  no-other-support = only-support b (r .rises) (r .some) (r .most);
+  answer = enclosure ps;
+  accepted = enclosed-flat ps (r .some) (omega (arith, r .most)) (inside-all ps (r .in-box));
+  disk-is = own-answer b (r .rises) (r .some) (r .most);
+  support-is = own-support b (r .rises) (r .some) (r .most);
+}
 
-  fixing : Fixing d ps
-  fixing = let (r, b) = rules in record {
-    smallest = b .own;
-    first-support = own-first b (r .rises) (r .some) (r .most);
-    no-other-support = only-support b (r .rises) (r .some) (r .most);
-  }
+named : (bs : List ℕ) (d : Disk) (ps : List Point) → readOf bs ≡ given (d, ps) → Fixing d ps
+named bs d ps h = let (r, b) = checked-rules d ps (accepted bs d ps h .fine) in taken d ps r b
 
-  disk-is : diskOf ps ≡ d
-  disk-is = let (r, b) = rules in own-answer b (r .rises) (r .some) (r .most)
-
-  support-is : firstSupport ps ≡ ps
-  support-is = let (r, b) = rules in own-support b (r .rises) (r .some) (r .most)
-
-  enclosed : encloseOf (flat ps) ≡ given (enclosure ps)
-  enclosed = let r = rules .0 in enclosed-flat ps (r .some) (omega (arith, r .most)) (inside-all ps (r .in-box))
-
-  own-record : Bytes bs → (w : WorkedOut (flat ps) bs) × (w .answer .disk ≡ d) × (w .answer .support ≡ ps)
-  own-record bytes =
-      let done = written (diskOf ps) (firstSupport ps) bs (checked-enclosure (flat ps) (enclosure ps) enclosed) (omega (arith, accepted bs d ps h .long)) in
-      let bytes-are = filled (diskOf ps) (firstSupport ps) bs done ∙ ap₂ recordBytes disk-is support-is ∙ written-again bs bytes d ps h .1 in
-      (record { answer = enclosure ps; accepted = enclosed; buffer = bs; written = done; filled = sym bytes-are }, disk-is, support-is)
+own-record : (bs : List ℕ) (d : Disk) (ps : List Point) → readOf bs ≡ given (d, ps) → Bytes bs
+    → (w : WorkedOut (flat ps) bs) × (w .answer .disk ≡ d) × (w .answer .support ≡ ps)
+own-record bs d ps h bytes =
+    let f = named bs d ps h in
+    let e = f .answer in
+    let done = written (e .disk) (e .support) bs (checked-enclosure (flat ps) e (f .accepted)) (omega (arith, accepted bs d ps h .long)) in
+    let bytes-are = filled (e .disk) (e .support) bs done ∙ ap₂ recordBytes (f .disk-is) (f .support-is) ∙ written-again bs bytes d ps h .1 in
+    (record { answer = e; accepted = f .accepted; buffer = bs; written = done; filled = sym bytes-are }, f .disk-is, f .support-is)
 
 pub fitting-points : FittingPoints
 fitting-points = record {
@@ -115,5 +113,6 @@ fitting-points = record {
     λ h. own-record bs d ps h bytes,
     λ (w, same, points). letter (flat ps) bs w ∙ ap₂ (λ (c : Disk) (qs : List Point). given (c, qs)) same points,
   );
-  named = fixing;
+  taken = taken;
+  named = named;
 }

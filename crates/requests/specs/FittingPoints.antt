@@ -3,7 +3,7 @@
 -- `diskRow`, `writerRow` and `readerRow`). Shown in proofs/FittingPoints.antt.
 --
 --   Unfit d ps      == reader, writer, whole radius and preview refuse the disk d with the points ps as 15, and a buffer is left as it was
---   Fixing d ps     == d is the smallest disk of ps, and ps are the only set that fixes it: none of them is spare
+--   Fixing d ps     == d is the smallest disk of ps, and ps are the only set that fixes it, none of them spare; the engine's answer for ps alone is d and ps
 --   FittingPoints   == all that item 9 says
 --
 -- `Belong d ps` (belonging/specs/Belonging.antt): ps belong to d, which is the item's sentence over the smallest disk of demand 2.
@@ -44,6 +44,10 @@ pub record Fixing (d : Disk) (ps : List Point) : Type 0 where
   pub smallest : Smallest ps d
   pub first-support : IsFirstSupport ps ps
   pub no-other-support : (S : List Point) → IsSupport ps S → S ≡ ps
+  pub answer : Enclosure
+  pub accepted : encloseOf (flat ps) ≡ given answer
+  pub disk-is : answer .disk ≡ d
+  pub support-is : answer .support ≡ ps
 
 pub record FittingPoints : Type 0 where
   -- "the smallest disk of the named corners is the disk, and with any one of them left out it is another or none": what the calls' definitions test
@@ -73,5 +77,7 @@ pub record FittingPoints : Type 0 where
   pub records :
       (bs : List ℕ) → Bytes bs → (d : Disk) (ps : List Point)
       → (readOf bs ≡ given (d, ps)) ↔ ((w : WorkedOut (flat ps) bs) × (w .answer .disk ≡ d) × (w .answer .support ≡ ps))
-  -- "Presses trusted that a record's corners belong to its disk.": a record that is taken names a smallest disk and a set that fixes it, with no spare point
+  -- "Presses trusted that a record's corners belong to its disk.": a record that is read names a smallest disk and a set that fixes it, with no spare point;
+  -- so do the disk and points that the other calls take
+  pub taken : (d : Disk) (ps : List Point) → Recordable d ps → Belong d ps → Fixing d ps
   pub named : (bs : List ℕ) (d : Disk) (ps : List Point) → readOf bs ≡ given (d, ps) → Fixing d ps
