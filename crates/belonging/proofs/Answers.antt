@@ -16,7 +16,7 @@ use native.Mathlib.Omega.{arith}
 use lib.ListN.{length}
 use Rattle.integers.proofs.Tests.{test-true}
 use Rattle.geometry.specs.declared.Point.{Point}
-use Rattle.geometry.specs.declared.Disk.{Disk}
+use Rattle.geometry.specs.Plane.{Disk}
 use Rattle.point_lists.specs.Sets.{In, has}
 use Rattle.point_lists.specs.Rising.{Rising}
 use Rattle.point_lists.proofs.Sets.{none-of, also, same-refl}

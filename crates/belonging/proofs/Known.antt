@@ -7,7 +7,7 @@ use mathlib.Core.Bool.{true, _&&_}
 use mathlib.Core.List.{List, [], _∷_, List·Memᴰ·head}
 use lib.Dec.{T, eqb}
 use Rattle.geometry.specs.declared.Point.{Point}
-use Rattle.geometry.specs.declared.Disk.{Disk}
+use Rattle.geometry.specs.Plane.{Disk}
 use Rattle.geometry.specs.EmBox.{em, inEmBox, WithinLimits}
 use Rattle.geometry.proofs.EmBox.{box-members}
 use Rattle.point_lists.specs.Sets.{In}

@@ -15,7 +15,7 @@ use Rattle.integers.proofs.Tests.{and-left, and-right, and-both}
 use Rattle.integers.proofs.Order.{clash, le, pos-le, nn, _⊞_, _⊠_}
 use Rattle.integers.proofs.Ring.{poly}
 use Rattle.geometry.specs.declared.Point.{Point}
-use Rattle.geometry.specs.declared.Disk.{Disk}
+use Rattle.geometry.specs.Plane.{Disk}
 use Rattle.disks.specs.Smallest.{RationalDisk, Fits, Smallest}
 use Rattle.disks.specs.Procedure.{diskOf}
 use Rattle.disks.specs.Support.{sameDisk, fronted}

@@ -19,8 +19,7 @@ use Rattle.integers.proofs.Ring.{ring, poly, linear, eqn, _&_}
 use Rattle.integers.proofs.Order.{eqZ-eq, eq-eqZ, ≡-cancel, sum-squares-zero, clash, lt, eq, nn, _⊞_}
 use Rattle.divisors.specs.Divisor.{Reduced}
 use Rattle.geometry.specs.declared.Point.{Point}
-use Rattle.geometry.specs.declared.Disk.{Disk}
-use Rattle.geometry.specs.Plane.{distance, onBoundary}
+use Rattle.geometry.specs.Plane.{Disk, distance, onBoundary}
 use Rattle.point_lists.proofs.Sets.{same-refl, point-path}
 use Rattle.disks.specs.Smallest.{Smallest}
 use Rattle.disks.specs.Support.{fronted}

@@ -4,25 +4,23 @@ use geometry::Point;
 use geometry::SupportSet;
 ghost use mathlib.Core.Path.{_≡_};
 ghost use mathlib.Core.Bool.{true, _&&_};
-ghost use lib.Dec.{T};
-ghost use Rattle.geometry.specs.EmBox.{em, inEmBox, WithinLimits};
-ghost use Rattle.geometry.specs.Plane.{members};
-ghost use Rattle.support_tests.specs.Tests.{onBoundaryTest, opposite, acute};
+ghost use Rattle.geometry.specs.Plane.{members, numbers};
+ghost use Rattle.support_tests.specs.Tests.{onBoundaryTest, opposite, acute, SmallDisk};
 ghost use Rattle.validity.specs.Valid.{valid};
 ghost use Rattle.belonging.specs.Belonging.{belongs};
 
 // Two points: the ends of a diameter. Where one is on the boundary, so is the other.
 fn is_diameter(d: Disk, a: Point, b: Point) -> bool
-    requires { ⌜ WithinLimits em d × T (inEmBox a) ⌝ }
-    ensures { λ r. ⌜ r ≡ (onBoundaryTest d a && opposite d a b) ⌝ }
+    requires { ⌜ SmallDisk (numbers d) ⌝ }
+    ensures { λ r. ⌜ r ≡ (onBoundaryTest (numbers d) a && opposite (numbers d) a b) ⌝ }
 {
     support_tests::on_boundary(d, a) && support_tests::is_opposite(d, a, b)
 }
 
 // Three points: all on the boundary, with acute angles.
 fn is_acute_on(d: Disk, a: Point, b: Point, c: Point) -> bool
-    requires { ⌜ WithinLimits em d × T (inEmBox a) × T (inEmBox b) × T (inEmBox c) ⌝ }
-    ensures { λ r. ⌜ r ≡ (onBoundaryTest d a && (onBoundaryTest d b && (onBoundaryTest d c && acute a b c))) ⌝ }
+    requires { ⌜ SmallDisk (numbers d) ⌝ }
+    ensures { λ r. ⌜ r ≡ (onBoundaryTest (numbers d) a && (onBoundaryTest (numbers d) b && (onBoundaryTest (numbers d) c && acute a b c))) ⌝ }
 {
     if support_tests::on_boundary(d, a) {
         if support_tests::on_boundary(d, b) {
@@ -36,11 +34,11 @@ fn is_acute_on(d: Disk, a: Point, b: Point, c: Point) -> bool
 
 // Whether the points of t belong to d, where a record can hold them.
 pub fn belongs(d: Disk, t: SupportSet) -> bool
-    requires { ⌜ valid d (members t) ≡ true ⌝ }
-    ensures { λ r. ⌜ r ≡ belongs d (members t) ⌝ }
+    requires { ⌜ valid (numbers d) (members t) ≡ true ⌝ }
+    ensures { λ r. ⌜ r ≡ belongs (numbers d) (members t) ⌝ }
 {
     match t {
-        SupportSet::One(a) => support_tests::on_boundary(d, a) && d.s == 0,
+        SupportSet::One(a) => support_tests::on_boundary(d, a) && wide_numbers::is_zero(d.s),
         SupportSet::Two(a, b) => is_diameter(d, a, b),
         SupportSet::Three(a, b, c) => is_acute_on(d, a, b, c),
     }

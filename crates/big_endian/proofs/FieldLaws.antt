@@ -3,6 +3,7 @@
 --   put-none, get-none        : nothing left to write or to read
 --   put-one, get-one          : one byte at a time, as a loop goes that counts down what is left
 --   put-before                : every byte before the field stays
+--   eight                     : 8 more digits
 --   get-put, round-trip       : what was written is read
 use mathlib.Core.Path.{_≡_, refl, sym, ap, ap₂, _∙_}
 use Prim.Native.Nat.{ℕ, zero, suc, _+_, _-_, _*_, _%_, _^_, _≤_, _<_}
@@ -58,7 +59,7 @@ put-before (suc n) v at k xs h =
 eights : (n : ℕ) → 8 * suc n ≡ 8 + 8 * n
 eights n = omega arith
 
-eight : (n : ℕ) → 2 ^ (8 * suc n) ≡ 256 * 2 ^ (8 * n)
+pub eight : (n : ℕ) → 2 ^ (8 * suc n) ≡ 256 * 2 ^ (8 * n)
 eight n = ap (λ (k : ℕ). 2 ^ k) (eights n) ∙ pow-add 2 8 (8 * n)
 
 pub get-put : (n v a at : ℕ) (xs : List ℕ) → at + n ≤ length xs → get n a at (put n v at xs) ≡ a * 2 ^ (8 * n) + v % 2 ^ (8 * n)
@@ -83,5 +84,3 @@ round-trip n v at xs h k = get-put n v 0 at xs h ∙ zero-then (v % 2 ^ (8 * n))
   where
     zero-then : (x : ℕ) → 0 * 2 ^ (8 * n) + x ≡ x
     zero-then x = ap (λ (y : ℕ). y + x) (zero-mul (2 ^ (8 * n))) ∙ zero-add x
-
--- ---- a field is not changed by a write before it or behind it

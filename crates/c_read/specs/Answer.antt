@@ -4,7 +4,7 @@
 use mathlib.Core.List.{List}
 use Rattle.answers.specs.Outcome.{Outcome, given, refused}
 use Rattle.geometry.specs.declared.Point.{Point}
-use Rattle.geometry.specs.declared.Disk.{Disk}
+use Rattle.geometry.specs.Plane.{Disk}
 use Rattle.c_types.specs.Support.{noDisk, noSupport, supportOf}
 use Rattle.c_read.specs.declared.RecordAnswer.{RecordAnswer}
 

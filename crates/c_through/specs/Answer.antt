@@ -2,7 +2,7 @@
 --
 --   throughAnswer o == 0 and the disk that the outcome o gives; or the number of the refusal, and 0 for the disk's numbers
 use Rattle.answers.specs.Outcome.{Outcome, given, refused}
-use Rattle.geometry.specs.declared.Disk.{Disk}
+use Rattle.geometry.specs.Plane.{Disk}
 use Rattle.c_types.specs.Support.{noDisk}
 use Rattle.c_through.specs.declared.ThroughAnswer.{ThroughAnswer}
 

@@ -10,8 +10,7 @@ use mathlib.Core.List.{List, [], _∷_}
 use Prim.Native.Nat.{ℕ, zero, suc}
 use lib.IntN.{pos}
 use Rattle.geometry.specs.declared.Point.{Point}
-use Rattle.geometry.specs.declared.Disk.{Disk}
-use Rattle.geometry.specs.Plane.{members}
+use Rattle.geometry.specs.Plane.{Disk, members}
 use Rattle.c_types.specs.declared.Support.{Support}
 use Rattle.c_types.specs.declared.Given.{Given}
 use Rattle.c_types.specs.declared.Given.the-variants.{Set, Nothing}

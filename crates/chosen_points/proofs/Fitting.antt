@@ -8,7 +8,7 @@ use mathlib.Core.Bool.{true}
 use mathlib.Core.List.{List}
 use lib.IntN.{ℤ}
 use Rattle.geometry.specs.declared.Point.{Point}
-use Rattle.geometry.specs.declared.Disk.{Disk}
+use Rattle.geometry.specs.Plane.{Disk}
 use Rattle.geometry.specs.Points.{points}
 use Rattle.point_lists.specs.Sets.{In, Same, has, allOf}
 use Rattle.point_lists.proofs.Sets.{same-sym}

@@ -10,7 +10,7 @@ use mathlib.Core.List.{List, [], _∷_}
 use lib.IntN.{ℤ}
 use Rattle.answers.specs.Outcome.{Outcome, given, refused, numberOf, refuseIf, andThen}
 use Rattle.geometry.specs.declared.Point.{Point}
-use Rattle.geometry.specs.declared.Disk.{Disk}
+use Rattle.geometry.specs.Plane.{Disk, numbers}
 use Rattle.geometry.specs.Points.{points}
 use Rattle.point_lists.specs.Sets.{same, has, allOf}
 use Rattle.engine.specs.Engine.{encloseOf}
@@ -34,7 +34,7 @@ fixed (One p) = p ∷ []
 fixed (Two p q) = once (same p q) p q
 
 abbrev pub outcome : Through → Outcome Disk
-outcome (Found d) = given d
+outcome (Found d) = given (numbers d)
 outcome (Refused r) = refused (numberOf r)
 
 -- "the engine's own on the list, then 12 if a chosen corner, even one outside the em box, isn't in it, then 13 exactly if no such disk exists"

@@ -16,7 +16,7 @@ use lib.IntN.{ℤ}
 use lib.ListN.{length, take}
 use Rattle.answers.specs.Outcome.{given}
 use Rattle.geometry.specs.declared.Point.{Point}
-use Rattle.geometry.specs.declared.Disk.{Disk}
+use Rattle.geometry.specs.Plane.{Disk}
 use Rattle.geometry.specs.Points.{points, flat}
 use Rattle.geometry.proofs.PointLists.{points-of-flat}
 use Rattle.point_lists.specs.Sets.{Same}

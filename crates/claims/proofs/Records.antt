@@ -13,7 +13,7 @@ use lib.Seq.{take-at}
 use Rattle.answers.specs.Outcome.{Outcome, given}
 use Rattle.answers.proofs.OutcomeLaws.{not-refused}
 use Rattle.geometry.specs.declared.Point.{Point}
-use Rattle.geometry.specs.declared.Disk.{Disk}
+use Rattle.geometry.specs.Plane.{Disk}
 use Rattle.geometry.specs.EmBox.{em}
 use Rattle.validity.specs.Valid.{valid}
 use Rattle.disk_checks.specs.Checks.{checkOf}

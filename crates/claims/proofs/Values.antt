@@ -30,7 +30,7 @@ use Rattle.integers.proofs.LeastLaws.{least-most}
 use Rattle.integers.specs.Order.{_≼_}
 use Rattle.integers.proofs.Tests.{both, test-true, between-most}
 use Rattle.geometry.specs.declared.Point.{Point}
-use Rattle.geometry.specs.declared.Disk.{Disk}
+use Rattle.geometry.specs.Plane.{Disk}
 use Rattle.geometry.specs.Points.{flat}
 use Rattle.geometry.specs.EmBox.{em, largest}
 use Rattle.geometry.proofs.EmBox.{left-size, right-size, foot-size, top-size}

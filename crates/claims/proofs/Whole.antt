@@ -17,8 +17,7 @@ use Rattle.answers.specs.Outcome.{Outcome, given, refuseIf, andThen}
 use Rattle.answers.proofs.OutcomeLaws.{not-refused, given-same, same-given, both-given}
 use Rattle.integers.specs.Order.{_≺_}
 use Rattle.geometry.specs.declared.Point.{Point}
-use Rattle.geometry.specs.declared.Disk.{Disk}
-use Rattle.geometry.specs.Plane.{holds}
+use Rattle.geometry.specs.Plane.{Disk, holds}
 use Rattle.geometry.specs.Points.{flat}
 use Rattle.geometry.proofs.PointLists.{points-of-flat}
 use Rattle.point_lists.proofs.Order.{ByCoordinates, by-x, by-y, by-coordinates, is-before}

@@ -14,7 +14,7 @@ use Prim.Native.Nat.{ℕ}
 use lib.IntN.{ℤ}
 use Rattle.answers.specs.Outcome.{refused}
 use Rattle.geometry.specs.declared.Point.{Point}
-use Rattle.geometry.specs.declared.Disk.{Disk}
+use Rattle.geometry.specs.Plane.{Disk}
 use Rattle.description.specs.Description as description
 use Rattle.description.specs.Description.{loadOf}
 use Rattle.drawn_points.specs.declared.DrawnPoint.{DrawnPoint}

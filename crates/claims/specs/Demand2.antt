@@ -14,7 +14,7 @@ use lib.IntN.{ℤ}
 use lib.ListN.{length, take}
 use Rattle.answers.specs.Outcome.{given}
 use Rattle.geometry.specs.declared.Point.{Point}
-use Rattle.geometry.specs.declared.Disk.{Disk}
+use Rattle.geometry.specs.Plane.{Disk}
 use Rattle.geometry.specs.Points.{points}
 use Rattle.disks.specs.Smallest.{Smallest}
 use Rattle.disks.specs.FirstSupport.{IsFirstSupport}

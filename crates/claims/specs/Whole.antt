@@ -15,8 +15,7 @@ use lib.ListN.{length, drop}
 use Rattle.answers.specs.Outcome.{given, refused}
 use Rattle.integers.specs.Order.{_≼_, _≺_}
 use Rattle.geometry.specs.declared.Point.{Point}
-use Rattle.geometry.specs.declared.Disk.{Disk}
-use Rattle.geometry.specs.Plane.{distance, holds}
+use Rattle.geometry.specs.Plane.{Disk, distance, holds}
 use Rattle.geometry.specs.Order.{before}
 use Rattle.disks.specs.Smallest.{Smallest}
 use Rattle.disks.specs.Procedure.{mtf}

@@ -28,7 +28,7 @@ use Rattle.geometry.specs.declared.Point.{Point}
 use Rattle.geometry.specs.EmBox.{em, Inside}
 use Rattle.point_lists.specs.Sets.{In}
 use Rattle.point_lists.proofs.Sets.{point-path, also, none-of}
-use Rattle.columns.specs.Columns.{lesser, greater, keptAt, at, Column, none, some, Columns, Seen, columnPoint, side}
+use Rattle.columns.specs.Columns.{lesser, greater, keptAt, at, Column, none, some, Columns, Seen, columnPoint, side, columnCount, groupCount}
 
 -- ---- the lesser and the greater
 
@@ -89,21 +89,21 @@ box-x p h = whole (p .x) (h .from-left)
     whole (pos n) k = refl
     whole (negsuc n) k = absurd (k .le)
 
-pub box-column : (p : Point) → Inside em p → natAbs (p .x) < 1008
-box-column p h = small (natAbs (p .x)) (subst (λ (z : ℤ). z ≼ pos 1000) (box-x p h) (h .to-right))
+pub box-column : (p : Point) → Inside em p → natAbs (p .x) < columnCount
+box-column p h = small (natAbs (p .x)) (subst (λ (z : ℤ). z ≼ em .right) (box-x p h) (h .to-right))
   where
-    small : (n : ℕ) → pos n ≼ pos 1000 → n < 1008
-    small n k = let m : n ≤ 1000 = le-pos k in omega arith
+    small : (n : ℕ) → pos n ≼ em .right → n < columnCount
+    small n k = let m : n ≤ natAbs (em .right) = le-pos k in omega arith
 
 -- ---- one more point
 
-pub columns-none : Columns [] (replicate 1008 (pos 32767)) (replicate 1008 (negsuc 32767))
+pub columns-none : Columns [] (replicate columnCount (pos 32767)) (replicate columnCount (negsuc 32767))
 columns-none = record {
-  low-size = length-replicate 1008 (pos 32767);
-  high-size = length-replicate 1008 (negsuc 32767);
+  low-size = length-replicate columnCount (pos 32767);
+  high-size = length-replicate columnCount (negsuc 32767);
   low-most = λ p i. absurd (List·Memᴰ·not-nil i);
   high-least = λ p i. absurd (List·Memᴰ·not-nil i);
-  column = λ x h. none (getD-replicate 1008 x (pos 32767) (pos 0) h) (getD-replicate 1008 x (negsuc 32767) (pos 0) h);
+  column = λ x h. none (getD-replicate columnCount x (pos 32767) (pos 0) h) (getD-replicate columnCount x (negsuc 32767) (pos 0) h);
 }
 
 -- the number at a place after one was put at place k
@@ -191,7 +191,7 @@ module _ {P : List Point} {low high : List ℤ} (c : Columns P low high) (p : Po
   column-more x a z (none e f) = none e f
   column-more x a z (some i j) = some (Memᴰ·append-left (p ∷ []) i) (Memᴰ·append-left (p ∷ []) j)
 
-  column-next : (x : ℕ) → x < 1008 → Column P′ x (getD low′ x (pos 0)) (getD high′ x (pos 0))
+  column-next : (x : ℕ) → x < columnCount → Column P′ x (getD low′ x (pos 0)) (getD high′ x (pos 0))
   column-next x h = go (ℕ-discrete x k)
     where
       go : Dec (x ≡ k) → Column P′ x (getD low′ x (pos 0)) (getD high′ x (pos 0))
@@ -221,8 +221,8 @@ module _ {P : List Point} {low high : List ℤ} (c : Columns P low high) (p : Po
 
 -- ---- the marks
 
-pub seen-none : Seen [] (replicate 63 0)
-seen-none = record { groups = length-replicate {A = ℕ} 63 0; marked = λ p i. absurd (List·Memᴰ·not-nil i) }
+pub seen-none : Seen [] (replicate groupCount 0)
+seen-none = record { groups = length-replicate {A = ℕ} groupCount 0; marked = λ p i. absurd (List·Memᴰ·not-nil i) }
 
 pub seen-next : {P : List Point} {seen : List ℕ} → Seen P seen → (p : Point) → Inside em p → Seen (P ++ (p ∷ [])) (set seen (natAbs (p .x) / 16) 1)
 seen-next {P} {seen} m p b = record {
@@ -248,7 +248,7 @@ seen-next {P} {seen} m p b = record {
     go q (inr i) = also (λ r. getD (set seen k 1) (natAbs (r .x) / 16) 0 ≡ 1) here (none-of (λ r. getD (set seen k 1) (natAbs (r .x) / 16) 0 ≡ 1)) q i
 
 pub unseen : {P : List Point} {low high : List ℤ} {seen : List ℕ} → Columns P low high → Seen P seen
-    → (x : ℕ) → x < 1008 → (getD seen (x / 16) 0 ≡ 1 → ⊥) → getD high x (pos 0) ≺ getD low x (pos 0)
+    → (x : ℕ) → x < columnCount → (getD seen (x / 16) 0 ≡ 1 → ⊥) → getD high x (pos 0) ≺ getD low x (pos 0)
 unseen {P} {low} {high} {seen} c m x h e = go (c .column x h)
   where
     go : Column P x (getD low x (pos 0)) (getD high x (pos 0)) → getD high x (pos 0) ≺ getD low x (pos 0)

@@ -30,7 +30,7 @@ use Rattle.point_lists.proofs.Order.{by-x, is-before}
 use Rattle.hull.proofs.HullOf.{rising-sorted, reverse-falls, reverse-to, reverse-from}
 use Rattle.hull.proofs.SameDisk.{not-empty}
 use Rattle.hull.proofs.TwoSides.{Below, Sides}
-use Rattle.columns.specs.Columns.{at, Column, none, some, Columns, columnPoint, side}
+use Rattle.columns.specs.Columns.{at, Column, none, some, Columns, columnPoint, side, columnCount}
 use Rattle.columns.proofs.ColumnLaws.{box-x, box-column, column-empty, column-one}
 
 -- ---- one column
@@ -93,7 +93,7 @@ module _ (low high ys : List ℤ) where
   abbrev this : ℕ → List Point
   this k = columnPoint (pos k) (lo k) (hi k) (ht k)
 
-  side-members : {P : List Point} → ((x : ℕ) → x < 1008 → lo x ≼ hi x → In (at x (ht x)) P) → (k : ℕ) → k ≤ 1008 → (q : Point)
+  side-members : {P : List Point} → ((x : ℕ) → x < columnCount → lo x ≼ hi x → In (at x (ht x)) P) → (k : ℕ) → k ≤ columnCount → (q : Point)
       → In q (side k low high ys) → In q P
   unfolding side
   side-members {P} f zero h q i = absurd (List·Memᴰ·not-nil i)
@@ -134,12 +134,12 @@ module _ (low high ys : List ℤ) where
 
 module _ {P : List Point} {low high : List ℤ} (c : Columns P low high) (boxed : (p : Point) → In p P → Inside em p) where
   abbrev A : List Point
-  A = side 1008 low high low
+  A = side columnCount low high low
 
   abbrev B : List Point
-  B = side 1008 low high high
+  B = side columnCount low high high
 
-  named : (x : ℕ) → x < 1008 → getD low x (pos 0) ≼ getD high x (pos 0) → In (at x (getD low x (pos 0))) P × In (at x (getD high x (pos 0))) P
+  named : (x : ℕ) → x < columnCount → getD low x (pos 0) ≼ getD high x (pos 0) → In (at x (getD low x (pos 0))) P × In (at x (getD high x (pos 0))) P
   named x h k = go (c .column x h)
     where
       go : Column P x (getD low x (pos 0)) (getD high x (pos 0)) → In (at x (getD low x (pos 0))) P × In (at x (getD high x (pos 0))) P
@@ -152,20 +152,20 @@ module _ {P : List Point} {low high : List ℤ} (c : Columns P low high) (boxed 
 
   pub sides-are : Sides P A (reverse B)
   sides-are = record {
-    low-members = side-members low high low (λ x h k. named x h k .0) 1008 (omega arith);
-    high-members = λ q i. side-members low high high (λ x h k. named x h k .1) 1008 (omega arith) q (reverse-from B q i);
-    rises = rising-sorted A (side-rises low high low 1008);
-    falls = reverse-falls B (side-rises low high high 1008);
+    low-members = side-members low high low (λ x h k. named x h k .0) columnCount (omega arith);
+    high-members = λ q i. side-members low high high (λ x h k. named x h k .1) columnCount (omega arith) q (reverse-from B q i);
+    rises = rising-sorted A (side-rises low high low columnCount);
+    falls = reverse-falls B (side-rises low high high columnCount);
     has-low = λ p i. record {
       low = at (natAbs (p .x)) (getD low (natAbs (p .x)) (pos 0));
-      low-in = side-in low high low 1008 (natAbs (p .x)) (box-column p (boxed p i)) (some-there p i);
+      low-in = side-in low high low columnCount (natAbs (p .x)) (box-column p (boxed p i)) (some-there p i);
       low-x = sym (box-x p (boxed p i));
       under = c .low-most p i;
     };
     has-high = λ p i. record {
       high = at (natAbs (p .x)) (getD high (natAbs (p .x)) (pos 0));
       high-in = reverse-to B (at (natAbs (p .x)) (getD high (natAbs (p .x)) (pos 0)))
-          (side-in low high high 1008 (natAbs (p .x)) (box-column p (boxed p i)) (some-there p i));
+          (side-in low high high columnCount (natAbs (p .x)) (box-column p (boxed p i)) (some-there p i));
       high-x = sym (box-x p (boxed p i));
       over = c .high-least p i;
     };

@@ -19,16 +19,16 @@ use Rattle.point_lists.specs.Put.{putAt}
 use Rattle.point_lists.proofs.Put.{length-put}
 use Rattle.hull_chains.specs.Spans.{span}
 use Rattle.hull_chains.proofs.Spanning.{span-end, span-same, put-other, put-span, put-behind}
-use Rattle.columns.specs.Columns.{at, side, Written}
+use Rattle.columns.specs.Columns.{at, side, Written, columnCount, sideLength}
 use Rattle.columns.proofs.ColumnLaws.{column-empty, column-one, side-none, side-next, side-skip}
 
-pub written-none : (low high lows highs : List ℤ) → length lows ≡ 2018 → length highs ≡ 2018 → Written 0 0 low high lows highs
+pub written-none : (low high lows highs : List ℤ) → length lows ≡ sideLength → length highs ≡ sideLength → Written 0 0 low high lows highs
 written-none low high lows highs f g = record {
   lows-size = f;
   highs-size = g;
   count = sym (ap length (side-none low high low));
   lowest = span-end 0 0 lows (omega arith) (omega arith) ∙ sym (side-none low high low);
-  highest = span-end 1008 1008 highs (omega arith) (omega (arith, g)) ∙ sym (ap reverse (side-none low high high));
+  highest = span-end columnCount columnCount highs (omega arith) (omega (arith, g)) ∙ sym (ap reverse (side-none low high high));
 }
 
 pub moved : {k m n : ℕ} {low high a b c d : List ℤ} → c ≡ a → d ≡ b → n ≡ m → Written k m low high a b → Written k n low high c d
@@ -47,7 +47,7 @@ gap {x} {y} {m} {low} {high} h f w = record {
     same : (ys : List ℤ) → side y low high ys ≡ side x low high ys
     same ys = side-skip (y - x) x y low high ys (omega arith) f
 
-module _ {x m : ℕ} {low high lows highs : List ℤ} (few : m ≤ x) (inside : x < 1008) (w : Written x m low high lows highs) where
+module _ {x m : ℕ} {low high lows highs : List ℤ} (few : m ≤ x) (inside : x < columnCount) (w : Written x m low high lows highs) where
   abbrev lo : ℤ
   lo = getD low x (pos 0)
 
@@ -58,13 +58,13 @@ module _ {x m : ℕ} {low high lows highs : List ℤ} (few : m ≤ x) (inside : 
   lows′ = putAt lows m (at x lo)
 
   abbrev highs′ : List ℤ
-  highs′ = putAt highs (1007 - m) (at x hi)
+  highs′ = putAt highs ((columnCount - 1) - m) (at x hi)
 
-  lows-size′ : length lows′ ≡ 2018
+  lows-size′ : length lows′ ≡ sideLength
   lows-size′ = length-put lows m (at x lo) ∙ w .lows-size
 
-  highs-size′ : length highs′ ≡ 2018
-  highs-size′ = length-put highs (1007 - m) (at x hi) ∙ w .highs-size
+  highs-size′ : length highs′ ≡ sideLength
+  highs-size′ = length-put highs ((columnCount - 1) - m) (at x hi) ∙ w .highs-size
 
   pub skipped : ltZ hi lo ≡ true → Written (x + 1) m low high lows′ highs′
   skipped e = record {
@@ -74,8 +74,8 @@ module _ {x m : ℕ} {low high lows highs : List ℤ} (few : m ≤ x) (inside : 
     lowest = span-same m 0 m lows′ lows (omega arith) (omega (arith, lows-size′)) (omega (arith, w .lows-size))
         (λ j u v. put-other lows m (at x lo) j (λ e. absurd (omega (arith, e, v))))
         ∙ w .lowest ∙ sym (same low);
-    highest = span-same m (1008 - m) 1008 highs′ highs (omega arith) (omega (arith, highs-size′)) (omega (arith, w .highs-size))
-        (λ j u v. put-other highs (1007 - m) (at x hi) j (λ e. absurd (omega (arith, e, u))))
+    highest = span-same m (columnCount - m) columnCount highs′ highs (omega arith) (omega (arith, highs-size′)) (omega (arith, w .highs-size))
+        (λ j u v. put-other highs ((columnCount - 1) - m) (at x hi) j (λ e. absurd (omega (arith, e, u))))
         ∙ w .highest ∙ sym (ap reverse (same high));
   }
     where
@@ -90,17 +90,17 @@ module _ {x m : ℕ} {low high lows highs : List ℤ} (few : m ≤ x) (inside : 
     count = omega (arith, w .count, ap length (next low), length-append (side x low high low) (at x lo ∷ []));
     lowest = put-behind lows m (at x lo) 0 (omega arith) (omega (arith, w .lows-size)) ∙ ap {B = List Point} (λ Q. Q ++ (at x lo ∷ [])) (w .lowest)
         ∙ sym (next low);
-    highest = ap (λ (k : ℕ). span k 1008 highs′) here
-        ∙ put-span highs (1007 - m) (at x hi) 1008 (omega arith) (omega (arith, w .highs-size))
-        ∙ ap {B = List Point} (λ k. at x hi ∷ span k 1008 highs) behind
+    highest = ap (λ (k : ℕ). span k columnCount highs′) here
+        ∙ put-span highs ((columnCount - 1) - m) (at x hi) columnCount (omega arith) (omega (arith, w .highs-size))
+        ∙ ap {B = List Point} (λ k. at x hi ∷ span k columnCount highs) behind
         ∙ ap {B = List Point} (λ Q. at x hi ∷ Q) (w .highest)
         ∙ sym (ap reverse (next high) ∙ reverse-append (side x low high high) (at x hi ∷ []));
   }
     where
-      here : 1008 - (m + 1) ≡ 1007 - m
+      here : columnCount - (m + 1) ≡ (columnCount - 1) - m
       here = omega arith
 
-      behind : 1007 - m + 1 ≡ 1008 - m
+      behind : (columnCount - 1) - m + 1 ≡ columnCount - m
       behind = omega arith
 
       next : (ys : List ℤ) → side (x + 1) low high ys ≡ side x low high ys ++ (at x (getD ys x (pos 0)) ∷ [])

@@ -11,11 +11,14 @@
 --   Written k m low high lows highs == of the first k columns, the m lowest points stand rising in front of `lows`, and the highest ones falling
 --                             at the end of `highs`, but for the room of one more point
 --
--- There are 63 groups, 1,008 columns, of which the em box has the first 1,001.
+--   columnCount, groupCount, sideLength == how many columns and groups there are, and the numbers of `lows` and of `highs`: room for a point of each column
+--                             and one more
+--
+-- There are 129 groups, 2,064 columns, of which the em box has the first 2,049.
 use mathlib.Core.Path.{_≡_}
 use mathlib.Core.Bool.{Bool, true, false}
 use mathlib.Core.List.{List, [], _∷_, _++_, reverse}
-use Prim.Native.Nat.{ℕ, zero, suc, _-_, _/_, _<_}
+use Prim.Native.Nat.{ℕ, zero, suc, _+_, _-_, _*_, _/_, _<_}
 use lib.IntN.{ℤ, pos, negsuc, natAbs}
 use lib.ListN.{length, getD, set}
 use lib.Signed.{ltZ}
@@ -23,6 +26,15 @@ use Rattle.integers.specs.Order.{_≼_}
 use Rattle.geometry.specs.declared.Point.{Point}
 use Rattle.point_lists.specs.Sets.{In}
 use Rattle.hull_chains.specs.Spans.{span}
+
+abbrev pub groupCount : ℕ
+groupCount = 129
+
+abbrev pub columnCount : ℕ
+columnCount = 16 * groupCount
+
+abbrev pub sideLength : ℕ
+sideLength = 2 * columnCount + 2
 
 unfoldable pub lesser : ℤ → ℤ → ℤ
 lesser a b = pick (ltZ b a)
@@ -49,14 +61,14 @@ pub data Column (P : List Point) (x : ℕ) (lo hi : ℤ) : Type 0 where
   some : In (at x lo) P → In (at x hi) P → Column P x lo hi
 
 pub record Columns (P : List Point) (low high : List ℤ) : Type 0 where
-  pub low-size : length low ≡ 1008
-  pub high-size : length high ≡ 1008
+  pub low-size : length low ≡ columnCount
+  pub high-size : length high ≡ columnCount
   pub low-most : (p : Point) → In p P → getD low (natAbs (p .x)) (pos 0) ≼ p .y
   pub high-least : (p : Point) → In p P → p .y ≼ getD high (natAbs (p .x)) (pos 0)
-  pub column : (x : ℕ) → x < 1008 → Column P x (getD low x (pos 0)) (getD high x (pos 0))
+  pub column : (x : ℕ) → x < columnCount → Column P x (getD low x (pos 0)) (getD high x (pos 0))
 
 pub record Seen (P : List Point) (seen : List ℕ) : Type 0 where
-  pub groups : length seen ≡ 63
+  pub groups : length seen ≡ groupCount
   pub marked : (p : Point) → In p P → getD seen (natAbs (p .x) / 16) 0 ≡ 1
 
 unfoldable pub columnPoint : ℤ → ℤ → ℤ → ℤ → List Point
@@ -71,8 +83,8 @@ side zero low high ys = []
 side (suc k) low high ys = side k low high ys ++ columnPoint (pos k) (getD low k (pos 0)) (getD high k (pos 0)) (getD ys k (pos 0))
 
 pub record Written (k m : ℕ) (low high lows highs : List ℤ) : Type 0 where
-  pub lows-size : length lows ≡ 2018
-  pub highs-size : length highs ≡ 2018
+  pub lows-size : length lows ≡ sideLength
+  pub highs-size : length highs ≡ sideLength
   pub count : m ≡ length (side k low high low)
   pub lowest : span 0 m lows ≡ side k low high low
-  pub highest : span (1008 - m) 1008 highs ≡ reverse (side k low high high)
+  pub highest : span (columnCount - m) columnCount highs ≡ reverse (side k low high high)

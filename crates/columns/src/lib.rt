@@ -10,7 +10,14 @@ ghost use lib.ListN.{length, getD};
 ghost use Rattle.integers.specs.Order.{_≺_};
 ghost use Rattle.geometry.specs.EmBox.{allInEmBox};
 ghost use Rattle.geometry.specs.Points.{points};
-ghost use Rattle.columns.specs.Columns.{lesser, greater, keptAt, Columns, Seen, Written};
+ghost use Rattle.columns.specs.Columns.{lesser, greater, keptAt, Columns, Seen, Written, columnCount, groupCount, sideLength};
+
+// Columns in groups of 16, enough for every x of the em box; and the numbers of a side: room for a point of each column and one more.
+pub const GROUPS: usize = 129;
+
+pub const COLUMNS: usize = 2064;
+
+pub const SIDE_LENGTH: usize = 4130;
 
 // The lesser of the number at place x and y goes there.
 fn keep_least(list: &mut [i16], x: usize, y: i16)
@@ -61,13 +68,13 @@ fn put_column(
     highs: &mut [i16],
     m: usize,
 ) -> usize
-    requires { ⌜ (x < 1008) × (m ≤ x) × (length (now low) ≡ 1008) × (length (now high) ≡ 1008) × Written x m (now low) (now high) (now lows) (now highs) ⌝ }
+    requires { ⌜ (x < columnCount) × (m ≤ x) × (length (now low) ≡ columnCount) × (length (now high) ≡ columnCount) × Written x m (now low) (now high) (now lows) (now highs) ⌝ }
     ensures { λ r. ⌜ (r ≤ x + 1) × Written (x + 1) r (now (low .entry)) (now (high .entry)) (now (lows .exit)) (now (highs .exit)) ⌝ }
 {
     let lo = low[x];
     let hi = high[x];
     point_lists::put_point(lows, m, Point { x: x as i16, y: lo });
-    point_lists::put_point(highs, 1007 - m, Point { x: x as i16, y: hi });
+    point_lists::put_point(highs, COLUMNS - 1 - m, Point { x: x as i16, y: hi });
     if hi < lo {
         return m;
     }
@@ -83,7 +90,7 @@ fn put_group(
     highs: &mut [i16],
     m: usize,
 ) -> usize
-    requires { ⌜ (g < 63) × (m ≤ 16 * g) × (length (now low) ≡ 1008) × (length (now high) ≡ 1008)
+    requires { ⌜ (g < groupCount) × (m ≤ 16 * g) × (length (now low) ≡ columnCount) × (length (now high) ≡ columnCount)
         × Written (16 * g) m (now low) (now high) (now lows) (now highs) ⌝ }
     ensures { λ r. ⌜ (r ≤ 16 * (g + 1)) × Written (16 * (g + 1)) r (now (low .entry)) (now (high .entry)) (now (lows .exit)) (now (highs .exit)) ⌝ }
 {
@@ -102,13 +109,13 @@ pub fn put_columns(
     lows: &mut [i16],
     highs: &mut [i16],
 ) -> usize
-    requires { ⌜ (length (now low) ≡ 1008) × (length (now high) ≡ 1008) × (length (now seen) ≡ 63)
-        × (length (now lows) ≡ 2018) × (length (now highs) ≡ 2018) ⌝ }
-    requires { ⌜ ((x : ℕ) → x < 1008 → (getD (now seen) (x / 16) 0 ≡ 1 → ⊥) → getD (now high) x (pos 0) ≺ getD (now low) x (pos 0)) ⌝ }
-    ensures { λ r. ⌜ (r ≤ 1008) × Written 1008 r (now (low .entry)) (now (high .entry)) (now (lows .exit)) (now (highs .exit)) ⌝ }
+    requires { ⌜ (length (now low) ≡ columnCount) × (length (now high) ≡ columnCount) × (length (now seen) ≡ groupCount)
+        × (length (now lows) ≡ sideLength) × (length (now highs) ≡ sideLength) ⌝ }
+    requires { ⌜ ((x : ℕ) → x < columnCount → (getD (now seen) (x / 16) 0 ≡ 1 → ⊥) → getD (now high) x (pos 0) ≺ getD (now low) x (pos 0)) ⌝ }
+    ensures { λ r. ⌜ (r ≤ columnCount) × Written columnCount r (now (low .entry)) (now (high .entry)) (now (lows .exit)) (now (highs .exit)) ⌝ }
 {
     let mut m: usize = 0;
-    for g in 0..63 {
+    for g in 0..GROUPS {
         if seen[g] == 1 {
             m = put_group(low, high, g, lows, highs, m);
         }

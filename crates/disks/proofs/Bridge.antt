@@ -22,7 +22,7 @@ use Rattle.divisors.specs.Divisor.{gcd, steps}
 use Rattle.integers.proofs.Ring.{ring, poly}
 use Rattle.integers.proofs.Order.{positive, lt, nn, _⊞_, _⊠_, <-cancel}
 use Rattle.geometry.specs.declared.Point.{Point}
-use Rattle.geometry.specs.declared.Disk.{Disk}
+use Rattle.geometry.specs.Plane.{Disk}
 use Rattle.disks.specs.Procedure.{Cover, empty, disk, outside, lowestTerms, pointDisk, diameterDisk, turnedBy, circle, boundaryDisk, State, tested}
 use Rattle.disks.specs.Procedure.{step, through, start, run, norm, diskIn, diskOf}
 use Rattle.disks.proofs.Lifted.{Lifted, value, squaredRadius}

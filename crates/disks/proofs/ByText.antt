@@ -21,8 +21,7 @@ use Rattle.integers.proofs.Bounds.{lt-true}
 use Rattle.integers.proofs.Order.{≤-of-eq, le}
 use Rattle.integers.proofs.Tests.{test-true}
 use Rattle.geometry.specs.declared.Point.{Point}
-use Rattle.geometry.specs.declared.Disk.{Disk}
-use Rattle.geometry.specs.Plane.{holds, onBoundary}
+use Rattle.geometry.specs.Plane.{Disk, holds, onBoundary}
 use Rattle.point_lists.specs.Sets.{In, Different}
 use Rattle.point_lists.proofs.Sets.{same-refl}
 use Rattle.disks.specs.Procedure.{Cover, disk, outside, State, boundaryDisk, tested, run, run-empty, run-full, run-last, mtf-empty}

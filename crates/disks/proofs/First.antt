@@ -21,7 +21,7 @@ use Rattle.integers.proofs.Tests.{and-left, and-right, and-both}
 use Rattle.integers.proofs.Order.{eqZ-eq, eq-eqZ}
 use Rattle.integers.specs.Order.{eqZ}
 use Rattle.geometry.specs.declared.Point.{Point}
-use Rattle.geometry.specs.declared.Disk.{Disk}
+use Rattle.geometry.specs.Plane.{Disk}
 use Rattle.point_lists.specs.Sets.{In, Same}
 use Rattle.point_lists.specs.Rising.{sorted, Rising}
 use Rattle.point_lists.proofs.Sets.{same-refl, same-sym}

@@ -17,8 +17,7 @@ use Rattle.divisors.specs.declared.Triple.{Triple}
 use Rattle.integers.proofs.Ring.{ring, poly, linear, eqn, _&_}
 use Rattle.integers.proofs.Order.{nn-is, pos-le, le-pos, <-to-≤, ≤-to-<, *-pos, sq, _⊞_}
 use Rattle.geometry.specs.declared.Point.{Point}
-use Rattle.geometry.specs.declared.Disk.{Disk}
-use Rattle.geometry.specs.Plane.{distance}
+use Rattle.geometry.specs.Plane.{Disk, distance}
 use Rattle.disks.specs.Procedure.{lowestTerms}
 use Rattle.disks.proofs.Lifted.{Lifted, value, squaredRadius}
 use Rattle.disks.proofs.AboutCentre.{boundary-length}

@@ -10,7 +10,7 @@ use Prim.Native.Nat.{_≤_, _<_}
 use native.Mathlib.Omega.{arith}
 use lib.ListN.{length, length-append}
 use Rattle.geometry.specs.declared.Point.{Point}
-use Rattle.geometry.specs.declared.Disk.{Disk}
+use Rattle.geometry.specs.Plane.{Disk}
 use Rattle.point_lists.proofs.Sets.{same-refl}
 use Rattle.disks.specs.Smallest.{SmallestWith}
 use Rattle.disks.specs.Procedure.{Cover, disk, outside, State}

@@ -15,8 +15,7 @@ use Rattle.integers.proofs.Ring.{poly, linear, eqn, _&_}
 use Rattle.integers.proofs.Order.{≤-antisym, nonneg, le, sq, _⊠_, ≡-cancel}
 use Rattle.divisors.proofs.Reduced.{reduced-unique}
 use Rattle.geometry.specs.declared.Point.{Point}
-use Rattle.geometry.specs.declared.Disk.{Disk}
-use Rattle.geometry.specs.Plane.{distance, holds, onBoundary}
+use Rattle.geometry.specs.Plane.{Disk, distance, holds, onBoundary}
 use Rattle.point_lists.specs.Sets.{In, Same}
 use Rattle.point_lists.proofs.Sets.{same-sym}
 use Rattle.disks.specs.Smallest.{RationalDisk, Fits, SmallestWith}

@@ -12,7 +12,7 @@ use lib.Signed.{_≤ℤ_, _<ℤ_}
 use Rattle.integers.proofs.Ring.{poly, linear, eqn, _&_}
 use Rattle.integers.proofs.Order.{≡-cancel, ≤-of-eq, nonneg, le}
 use Rattle.geometry.specs.declared.Point.{Point}
-use Rattle.geometry.specs.declared.Disk.{Disk}
+use Rattle.geometry.specs.Plane.{Disk}
 use Rattle.point_lists.proofs.Sets.{none-of, also, same-refl}
 use Rattle.disks.specs.Smallest.{Smallest}
 use Rattle.disks.proofs.Lifted.{Lifted, value, squaredRadius}

@@ -16,8 +16,7 @@ use Rattle.integers.proofs.Ring.{ring, poly, linear, eqn, _&_}
 use Rattle.integers.proofs.Order.{≤-of-<, ≤-antisym, <-to-≤, ≤-to-<, pos-le, le-pos, nonneg, nonneg-by, le, eq, sq, _⊞_, _⊠_, *-pos, <-cancel}
 use Rattle.integers.proofs.Order.{sum-squares-zero, ≡-cancel}
 use Rattle.geometry.specs.declared.Point.{Point}
-use Rattle.geometry.specs.declared.Disk.{Disk}
-use Rattle.geometry.specs.Plane.{distance, holds, onBoundary}
+use Rattle.geometry.specs.Plane.{Disk, distance, holds, onBoundary}
 use Rattle.disks.specs.Smallest.{RationalDisk, far, reach, Fits, SmallestWith}
 use Rattle.disks.proofs.Lifted.{Lifted, value, squaredRadius, gap}
 use Rattle.disks.proofs.Minimal.{Feasible, StronglyMinimal}

@@ -22,8 +22,7 @@ use Rattle.divisors.proofs.LowestTerms.{divides-x, divides-y, quot-exact}
 use Rattle.integers.proofs.Ring.{ring, poly}
 use Rattle.integers.proofs.Order.{≤-of-eq, nn-is, positive, lt, eq, sq, _⊞_, _⊠_, <-cancel}
 use Rattle.geometry.specs.declared.Point.{Point}
-use Rattle.geometry.specs.declared.Disk.{Disk}
-use Rattle.geometry.specs.Plane.{distance, holds}
+use Rattle.geometry.specs.Plane.{Disk, distance, holds}
 use Rattle.disks.specs.Procedure.{disk, outside, norm, lowestTerms}
 use Rattle.disks.proofs.Lifted.{Lifted, value, noDisk, value-none}
 use Rattle.disks.proofs.Relative.{relative, relative-radius}

@@ -21,8 +21,7 @@ use lib.ListN.{length}
 use lib.Signed.{quotZ}
 use Rattle.divisors.specs.Divisor.{common}
 use Rattle.geometry.specs.declared.Point.{Point}
-use Rattle.geometry.specs.declared.Disk.{Disk}
-use Rattle.geometry.specs.Plane.{holds}
+use Rattle.geometry.specs.Plane.{Disk, holds}
 
 pub data Cover : Type 0 where
   empty : Cover

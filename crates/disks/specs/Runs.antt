@@ -14,7 +14,7 @@ use mathlib.Core.List.{List, [], _∷_, _++_}
 use Prim.Native.Nat.{_+_, _≤_, _<_}
 use lib.ListN.{length}
 use Rattle.geometry.specs.declared.Point.{Point}
-use Rattle.geometry.specs.declared.Disk.{Disk}
+use Rattle.geometry.specs.Plane.{Disk}
 use Rattle.point_lists.specs.Sets.{Different}
 use Rattle.disks.specs.Smallest.{RationalDisk, Fits, SmallestWith}
 use Rattle.disks.specs.Procedure.{Cover, empty, disk, outside, State, mtf}

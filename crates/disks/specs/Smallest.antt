@@ -13,8 +13,7 @@ use lib.IntN.{ℤ, pos, _+ℤ_, _-ℤ_, _*ℤ_}
 use Rattle.divisors.specs.Divisor.{Reduced}
 use Rattle.integers.specs.Order.{_≼_}
 use Rattle.geometry.specs.declared.Point.{Point}
-use Rattle.geometry.specs.declared.Disk.{Disk}
-use Rattle.geometry.specs.Plane.{holds, onBoundary}
+use Rattle.geometry.specs.Plane.{Disk, holds, onBoundary}
 use Rattle.point_lists.specs.Sets.{In}
 
 pub record RationalDisk : Type 0 where

@@ -13,9 +13,8 @@ use lib.IntN.{ℤ}
 use lib.ListN.{length}
 use Rattle.answers.specs.Outcome.{Outcome, given, refused, numberOf, refuseIf}
 use Rattle.geometry.specs.declared.Point.{Point}
-use Rattle.geometry.specs.declared.Disk.{Disk}
 use Rattle.geometry.specs.EmBox.{allInEmBox}
-use Rattle.geometry.specs.Plane.{members}
+use Rattle.geometry.specs.Plane.{Disk, numbers, members}
 use Rattle.geometry.specs.Points.{points, flat}
 use Rattle.disks.specs.Procedure.{diskOf, testsOf, orderOf}
 use Rattle.disks.specs.Support.{firstSupport}
@@ -28,7 +27,7 @@ pub record Enclosure : Type 0 where
   pub tests : ℕ
 
 abbrev pub outcome : Enclosed → Outcome Enclosure
-outcome (Found d t n) = given (record { disk = d; support = members t; tests = n })
+outcome (Found d t n) = given (record { disk = numbers d; support = members t; tests = n })
 outcome (Refused r) = refused (numberOf r)
 
 abbrev pub enclosure : List Point → Enclosure

@@ -21,9 +21,8 @@ use Rattle.integers.proofs.Order.{eqZ-eq, eq-eqZ, le-pos}
 use Rattle.answers.specs.Outcome.{given, refused, refuseIf}
 use Rattle.answers.proofs.OutcomeLaws.{not-given, given-same}
 use Rattle.geometry.specs.declared.Point.{Point}
-use Rattle.geometry.specs.declared.Disk.{Disk}
 use Rattle.geometry.specs.EmBox.{em, inEmBox}
-use Rattle.geometry.specs.Plane.{distance, holds, onBoundary}
+use Rattle.geometry.specs.Plane.{Disk, distance, holds, onBoundary}
 use Rattle.point_lists.specs.Sets.{In, Different, allOf}
 use Rattle.point_lists.proofs.Sets.{same-refl}
 use Rattle.point_lists.proofs.SetTests.{all-in, in-all}

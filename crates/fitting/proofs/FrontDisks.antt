@@ -18,8 +18,7 @@ use lib.Signed.{_≤ℤ_, _<ℤ_}
 use Rattle.integers.proofs.Tests.{test-true, true-test}
 use Rattle.integers.proofs.Order.{<-≤-clash}
 use Rattle.geometry.specs.declared.Point.{Point}
-use Rattle.geometry.specs.declared.Disk.{Disk}
-use Rattle.geometry.specs.Plane.{holds, onBoundary}
+use Rattle.geometry.specs.Plane.{Disk, holds, onBoundary}
 use Rattle.point_lists.specs.Sets.{In, Different}
 use Rattle.disks.specs.Smallest.{RationalDisk, Fits, SmallestWith}
 use Rattle.disks.specs.Procedure.{Cover, disk, outside, mtf, diskIn}

@@ -13,8 +13,7 @@ use lib.IntN.{ℤ, pos, _*ℤ_}
 use lib.ListN.{length}
 use Rattle.integers.proofs.Order.{≤-of-eq, <-≤-clash, Compared, less, same, more, compared}
 use Rattle.geometry.specs.declared.Point.{Point}
-use Rattle.geometry.specs.declared.Disk.{Disk}
-use Rattle.geometry.specs.Plane.{onBoundary}
+use Rattle.geometry.specs.Plane.{Disk, onBoundary}
 use Rattle.point_lists.specs.Sets.{In}
 use Rattle.point_lists.proofs.Sets.{none-of}
 use Rattle.disks.specs.Procedure.{Cover, disk, outside, circle, boundaryDisk, State, tested, step, through, start, run, diskIn}

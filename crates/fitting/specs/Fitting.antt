@@ -13,8 +13,7 @@ use lib.IntN.{pos}
 use Rattle.answers.specs.Outcome.{Outcome, given, refuseIf}
 use Rattle.integers.specs.Order.{eqZ}
 use Rattle.geometry.specs.declared.Point.{Point}
-use Rattle.geometry.specs.declared.Disk.{Disk}
-use Rattle.geometry.specs.Plane.{distance, holds}
+use Rattle.geometry.specs.Plane.{Disk, distance, holds}
 use Rattle.point_lists.specs.Sets.{allOf}
 use Rattle.disks.specs.Procedure.{Cover, empty, disk, mtf, diskIn}
 

@@ -16,7 +16,7 @@ use Rattle.integers.proofs.Order.{≤-antisym, ≤-of-<, <-≤-clash, neg-mono,
 use Rattle.integers.proofs.Laws.{neg-neg}
 use Rattle.integers.proofs.Ring.{ring, poly}
 use Rattle.geometry.specs.declared.Point.{Point}
-use Rattle.geometry.specs.declared.Disk.{Disk}
+use Rattle.geometry.specs.Plane.{Disk}
 use Rattle.geometry.specs.EmBox.{em, inEmBox}
 use Rattle.disks.specs.Procedure.{disk, circle, boundaryDisk, lowestTerms, norm}
 use Rattle.disks.proofs.Lifted.{Lifted}

@@ -1,6 +1,9 @@
--- The em box, and how large the numbers of a disk in it can be (01, "What the engine holds", "Disk and rim"). This is the one home of these limits.
+-- The em box, and how large the numbers of a disk in it can be (01, "What the engine holds", "Disk and rim", with the figures of 02, item 10). This is the one
+-- home of these limits.
 --
---   em               == document 01's limits: x from 0 to 1000, y from −250 to 750; E at most 2,000,000 and S/E² at most 500,000
+--   em               == x from 0 to 2048, y from −512 to 1536; E at most 8,388,608 and S/E² at most 2,097,152
+--   oldEm            == document 01's own figures, which records of 45 bytes keep: x from 0 to 1000, y from −250 to 750; E at most 2,000,000 and S/E² at
+--                       most 500,000
 --   leftOfBox        == a number to the left of the em box, where the procedure's empty disk has its point
 --   inBox l p        == p lies in the box of the limits l
 --   allInBox l ps    == every point of ps does
@@ -14,11 +17,14 @@ use Prim.Native.Nat.{ℕ, _*_, _≤_, max}
 use lib.IntN.{ℤ, pos, negsuc, natAbs, _*ℤ_}
 use Rattle.integers.specs.Order.{_≼_, between}
 use Rattle.geometry.specs.declared.Point.{Point}
-use Rattle.geometry.specs.declared.Disk.{Disk}
 use Rattle.geometry.specs.declared.Limits.{Limits}
+use Rattle.geometry.specs.Plane.{Disk}
 
 abbrev pub em : Limits
-em = record { left = pos 0; right = pos 1000; foot = negsuc 249; top = pos 750; scale = 2_000_000; square = 500_000 }
+em = record { left = pos 0; right = pos 2048; foot = negsuc 511; top = pos 1536; scale = 8_388_608; square = 2_097_152 }
+
+abbrev pub oldEm : Limits
+oldEm = record { left = pos 0; right = pos 1000; foot = negsuc 249; top = pos 750; scale = 2_000_000; square = 500_000 }
 
 abbrev pub leftOfBox : ℤ
 leftOfBox = negsuc 0

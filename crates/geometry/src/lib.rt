@@ -3,9 +3,10 @@ ghost use mathlib.Core.Path.{_≡_};
 ghost use Prim.Native.Nat.{_+_, _*_, _≤_};
 ghost use lib.IntN.{_-ℤ_};
 ghost use lib.ListN.{length};
-ghost use Rattle.geometry.specs.EmBox.{em, inBox, inEmBox};
+ghost use Rattle.geometry.specs.EmBox.{em, oldEm, inBox, inEmBox};
 ghost use Rattle.geometry.specs.Points.{pointAt};
 ghost use Rattle.geometry.specs.Order.{before};
+use wide_numbers::Wide;
 
 // 01: a corner.
 #[repr(C)]
@@ -20,7 +21,7 @@ pub struct Disk {
     pub x: i64,
     pub y: i64,
     pub e: u64,
-    pub s: u64,
+    pub s: Wide,
 }
 
 // The box that points lie in, x from left to right and y from foot to top, the largest E and the largest S/E².
@@ -57,15 +58,15 @@ pub fn minus(b: i16, a: i16) -> i64
 // The em box, and a number to the left of it.
 pub const LEFT: i64 = 0;
 
-pub const RIGHT: i64 = 1000;
+pub const RIGHT: i64 = 2048;
 
-pub const FOOT: i64 = -250;
+pub const FOOT: i64 = -512;
 
-pub const TOP: i64 = 750;
+pub const TOP: i64 = 1536;
 
 pub const LEFT_OF_BOX: i64 = -1;
 
-// Document 01's limits.
+// The limits of the em box (02, item 10).
 pub fn em_limits() -> Limits
     ensures { λ r. ⌜ r ≡ em ⌝ }
 {
@@ -74,6 +75,20 @@ pub fn em_limits() -> Limits
         right: RIGHT,
         foot: FOOT,
         top: TOP,
+        scale: 8_388_608,
+        square: 2_097_152,
+    }
+}
+
+// The limits of records of 45 bytes (01; 02, item 10: the old limits).
+pub fn old_em_limits() -> Limits
+    ensures { λ r. ⌜ r ≡ oldEm ⌝ }
+{
+    Limits {
+        left: 0,
+        right: 1000,
+        foot: -250,
+        top: 750,
         scale: 2_000_000,
         square: 500_000,
     }

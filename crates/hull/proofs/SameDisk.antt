@@ -20,8 +20,7 @@ use Rattle.integers.specs.Order.{_≼_}
 use Rattle.integers.proofs.Laws.{one-*}
 use Rattle.integers.proofs.Order.{le, nn}
 use Rattle.geometry.specs.declared.Point.{Point}
-use Rattle.geometry.specs.declared.Disk.{Disk}
-use Rattle.geometry.specs.Plane.{distance, holds, onBoundary}
+use Rattle.geometry.specs.Plane.{Disk, distance, holds, onBoundary}
 use Rattle.point_lists.specs.Sets.{In}
 use Rattle.point_lists.specs.Rising.{sorted}
 use Rattle.point_lists.proofs.Sets.{same-refl}

@@ -19,6 +19,7 @@ use Rattle.geometry.specs.Points.{points}
 use Rattle.hull.specs.Chains.{inner}
 use Rattle.hull.specs.Skimmed.{skimChain}
 use Rattle.hull_chains.specs.Spans.{span}
+use Rattle.columns.specs.Columns.{columnCount}
 
 pub record Boxed (l : List ℤ) : Type 0 where
   pub even : length l % 2 ≡ 0
@@ -40,4 +41,4 @@ enclosed (a ∷ A) [] = []
 enclosed (a ∷ A) (z ∷ B) = skimChain (closed (a ∷ A) z) ++ inner (skimChain (closed (z ∷ B) a))
 
 abbrev pub enclosedBy : ℕ → List ℤ → List ℤ → List Point
-enclosedBy m lows highs = enclosed (span 0 m lows) (span (1008 - m) 1008 highs)
+enclosedBy m lows highs = enclosed (span 0 m lows) (span (columnCount - m) columnCount highs)

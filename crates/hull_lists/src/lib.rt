@@ -6,7 +6,7 @@ ghost use lib.ListN.{length};
 ghost use Rattle.geometry.specs.Points.{points};
 ghost use Rattle.hull.specs.Chains as Chains;
 ghost use Rattle.hull_chains.specs.Spans.{span};
-ghost use Rattle.columns.specs.Columns.{Columns, Seen};
+ghost use Rattle.columns.specs.Columns.{Columns, Seen, columnCount, sideLength};
 ghost use Rattle.joined_chains.specs.Laid.{laid};
 ghost use Rattle.hull_lists.specs.Enclosed.{closed, enclosedBy, Boxed};
 
@@ -26,17 +26,17 @@ fn close(list: &mut [i16], n: usize, p: Point) -> usize
 
 // The hull of a list, from its m lowest points and its m highest ones, put in front of the list, and zeros behind; returns how many corners it has.
 fn lay(lows: &mut [i16], highs: &mut [i16], m: usize, list: &mut [i16]) -> usize
-    requires { ⌜ (1 ≤ m) × (m ≤ 1008) × (length (now lows) ≡ 2018) × (length (now highs) ≡ 2018) ⌝ }
+    requires { ⌜ (1 ≤ m) × (m ≤ columnCount) × (length (now lows) ≡ sideLength) × (length (now highs) ≡ sideLength) ⌝ }
     requires { ⌜ 2 * length (enclosedBy m (now lows) (now highs)) ≤ length (now list) ⌝ }
     ensures size { λ r. ⌜ r ≡ length (enclosedBy m (now (lows .entry)) (now (highs .entry))) ⌝ }
     ensures left { λ r. ⌜ now (list .exit) ≡ laid (enclosedBy m (now (lows .entry)) (now (highs .entry))) (length (now (list .entry))) ⌝ }
 {
     let a = geometry::point_at(lows, 0);
-    let z = geometry::point_at(highs, 1008 - m);
+    let z = geometry::point_at(highs, columns::COLUMNS - m);
     let n = close(lows, m, z);
-    let v = close(highs, 1008, a);
+    let v = close(highs, columns::COLUMNS, a);
     let l = hull_chains::chain(lows, 0, n);
-    let u = hull_chains::chain(highs, 1008 - m, v);
+    let u = hull_chains::chain(highs, columns::COLUMNS - m, v);
     joined_chains::join(lows, l, n, highs, u, v, list)
 }
 
@@ -46,8 +46,8 @@ fn reduce_columns(low: &[i16], high: &[i16], seen: &[u8], list: &mut [i16]) -> u
     ensures size { λ r. ⌜ r ≡ length (Chains.hullOf (points (now (list .entry)))) ⌝ }
     ensures left { λ r. ⌜ now (list .exit) ≡ laid (Chains.hullOf (points (now (list .entry)))) (length (now (list .entry))) ⌝ }
 {
-    let mut lows = [0i16; 2018];
-    let mut highs = [0i16; 2018];
+    let mut lows = [0i16; columns::SIDE_LENGTH];
+    let mut highs = [0i16; columns::SIDE_LENGTH];
     let m = columns::put_columns(low, high, seen, &mut lows, &mut highs);
     lay(&mut lows, &mut highs, m, list)
 }
@@ -58,9 +58,9 @@ pub fn reduce(list: &mut [i16]) -> usize
     ensures size { λ r. ⌜ r ≡ length (Chains.hullOf (points (now (list .entry)))) ⌝ }
     ensures left { λ r. ⌜ now (list .exit) ≡ laid (Chains.hullOf (points (now (list .entry)))) (length (now (list .entry))) ⌝ }
 {
-    let mut low = [32767i16; 1008];
-    let mut high = [-32768i16; 1008];
-    let mut seen = [0u8; 63];
+    let mut low = [32767i16; columns::COLUMNS];
+    let mut high = [-32768i16; columns::COLUMNS];
+    let mut seen = [0u8; columns::GROUPS];
     columns::columns(list, &mut low, &mut high, &mut seen);
     reduce_columns(&low, &high, &seen, list)
 }

@@ -11,7 +11,7 @@ use mathlib.Core.List.{List, [], _∷_}
 use lib.IntN.{pos, negsuc}
 use Rattle.answers.specs.Outcome.{Outcome, given, refused}
 use Rattle.geometry.specs.declared.Point.{Point}
-use Rattle.geometry.specs.declared.Disk.{Disk}
+use Rattle.geometry.specs.Plane.{Disk}
 use Rattle.disk_checks.specs.Checks.{checkOf}
 use Rattle.letters_to_try.specs.Letters.{at, disk}
 

@@ -10,7 +10,7 @@ use mathlib.Core.List.{List, [], _∷_}
 use lib.IntN.{pos, negsuc}
 use lib.ListN.{length}
 use Rattle.geometry.specs.declared.Point.{Point}
-use Rattle.geometry.specs.declared.Disk.{Disk}
+use Rattle.geometry.specs.Plane.{Disk}
 use Rattle.disks.specs.Procedure as procedure
 use Rattle.disks.specs.Procedure.{mtf}
 use Rattle.letters_to_try.specs.Letters.{at, below, disk}

@@ -11,7 +11,7 @@ use Prim.Native.Nat.{ℕ}
 use lib.IntN.{pos, negsuc}
 use Rattle.answers.specs.Outcome.{given}
 use Rattle.geometry.specs.declared.Point.{Point}
-use Rattle.geometry.specs.declared.Disk.{Disk}
+use Rattle.geometry.specs.Plane.{Disk}
 use Rattle.geometry.specs.Points.{points, flat}
 use Rattle.disks.specs.Procedure.{testsOf}
 use Rattle.engine.specs.Engine.{encloseOf, listAfter}

@@ -13,7 +13,7 @@ use mathlib.Core.List.{List, [], _∷_, _++_}
 use Prim.Native.Nat.{ℕ}
 use Rattle.answers.specs.Outcome.{Outcome, given, refused}
 use Rattle.geometry.specs.declared.Point.{Point}
-use Rattle.geometry.specs.declared.Disk.{Disk}
+use Rattle.geometry.specs.Plane.{Disk}
 use Rattle.record_writer.specs.Bytes.{recordBytes}
 use Rattle.record_reader.specs.Reading.{readOf}
 use Rattle.letters_to_try.specs.Letters.{at, disk}

@@ -8,7 +8,7 @@ use mathlib.Core.Path.{_≡_}
 use mathlib.Core.List.{List, [], _∷_}
 use lib.IntN.{ℤ, pos, negsuc}
 use Rattle.answers.specs.Outcome.{Outcome, given, refused}
-use Rattle.geometry.specs.declared.Disk.{Disk}
+use Rattle.geometry.specs.Plane.{Disk}
 use Rattle.traced_points.specs.Traced.{tracedOf}
 use Rattle.letters_to_try.specs.Letters.{disk}
 

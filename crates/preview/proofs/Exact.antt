@@ -18,7 +18,7 @@ use lib.Ieee.Exact.{HasValue}
 use lib.Ieee.Fits.{down-pos}
 use lib.Ieee.Scale.{round-same}
 use Rattle.geometry.specs.EmBox.{em}
-use Rattle.geometry.specs.declared.Disk.{Disk}
+use Rattle.geometry.specs.Plane.{Disk}
 use Rattle.validity.specs.Valid.{validDisk}
 use Rattle.radius.specs.Radius.{wholeRadius}
 use Rattle.validity.proofs.ValidLaws.{limits}

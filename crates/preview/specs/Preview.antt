@@ -15,7 +15,7 @@ use lib.IntN.{ℤ, pos, negsuc}
 use lib.Ieee.{Float, binary64, div, ofInt}
 use Rattle.answers.specs.Outcome.{Outcome, given, refused, numberOf, andThen}
 use Rattle.geometry.specs.declared.Point.{Point}
-use Rattle.geometry.specs.declared.Disk.{Disk}
+use Rattle.geometry.specs.Plane.{Disk}
 use Rattle.disk_checks.specs.Checks.{checkOf}
 use Rattle.radius.specs.Radius.{wholeRadius}
 use Rattle.preview.specs.declared.Preview.{Preview}

@@ -12,7 +12,7 @@ use native.Mathlib.Nat.{mul-le-mul, mul-le-mul-right, mul-lt-mul-of-pos-right, l
 use native.Mathlib.Omega.{arith}
 use borrow.Author.Tests.{lt-ltb, le-ltb, ltb-false}
 use lib.Dec.{lit<}
-use Rattle.geometry.specs.declared.Disk.{Disk}
+use Rattle.geometry.specs.Plane.{Disk}
 use Rattle.geometry.specs.EmBox.{em}
 use Rattle.integers.specs.Least.{IsLeast}
 use Rattle.radius.specs.Radius.{clears, wholeRadius, maxRadius}

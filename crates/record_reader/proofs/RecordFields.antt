@@ -22,7 +22,7 @@ use Rattle.twos_complement.specs.Twos.{half, twos, back}
 use Rattle.big_endian.proofs.ByteLists.{get-lt}
 use Rattle.twos_complement.proofs.TwosLaws.{twos-lt, back-twos, twos-back}
 use Rattle.geometry.specs.declared.Point.{Point}
-use Rattle.geometry.specs.declared.Disk.{Disk}
+use Rattle.geometry.specs.Plane.{Disk}
 use Rattle.geometry.specs.EmBox.{em, inEmBox}
 use Rattle.geometry.proofs.EmBox.{point-size}
 use Rattle.record_writer.specs.Layout.{recordLength, coordinateWidth, countWidth, firstAt, numberWidth, secondAt, thirdAt, xAt, yAt}

@@ -23,7 +23,7 @@ use Rattle.answers.proofs.OutcomeLaws.{given-same, not-refused, both-given}
 use Rattle.integers.proofs.Tests.{first, rest}
 use Rattle.big_endian.specs.Fields.{bytesOf, get}
 use Rattle.geometry.specs.declared.Point.{Point}
-use Rattle.geometry.specs.declared.Disk.{Disk}
+use Rattle.geometry.specs.Plane.{Disk}
 use Rattle.geometry.specs.EmBox.{em, allInBox, inEmBox, allInEmBox}
 use Rattle.geometry.specs.Order.{before}
 use Rattle.validity.specs.Valid.{oneToThree, valid}

@@ -9,7 +9,7 @@ use lib.Dec.{ltb}
 use lib.ListN.{length, drop}
 use Rattle.answers.specs.Outcome.{Outcome, given, refused, numberOf, refuseIf}
 use Rattle.geometry.specs.declared.Point.{Point}
-use Rattle.geometry.specs.declared.Disk.{Disk}
+use Rattle.geometry.specs.Plane.{Disk}
 use Rattle.disk_checks.specs.Checks.{checkOf}
 use Rattle.record_writer.specs.Layout.{recordLength}
 use Rattle.record_writer.specs.Bytes.{recordBytes}

@@ -1,12 +1,12 @@
-// The record's layout (01, "Description, sheet, record"; 02, item 4: 45 bytes), and the record writer.
+// The record's layout (01, "Description, sheet, record"; 02, items 4 and 10: 53 bytes), and the record writer.
 ghost use mathlib.Core.Path.{_≡_};
 ghost use mathlib.Core.List.{[], _∷_, _++_};
 ghost use Prim.Native.Nat.{_+_, _≤_};
 ghost use lib.ListN.{length};
 ghost use lib.Seq.{sets};
 ghost use Rattle.big_endian.specs.Fields.{bytesOf};
-ghost use Rattle.geometry.specs.Plane.{members};
-ghost use Rattle.record_writer.specs.Layout.{xAt, firstAt, pointWidth, countWidth, recordLength};
+ghost use Rattle.geometry.specs.Plane.{members, numbers};
+ghost use Rattle.record_writer.specs.Layout.{xAt, firstAt, pointWidth, sWidth, countWidth, recordLength};
 ghost use Rattle.record_writer.specs.Bytes.{diskBytes, pointBytes, pointsBytes, madeThree, countBytes};
 ghost use Rattle.record_writer.specs.Writing.{writeOf, bufferAfter, outcome};
 use answers::Refusal;
@@ -30,32 +30,34 @@ pub const E_AT: usize = 16;
 
 pub const S_AT: usize = 24;
 
-pub const FIRST_AT: usize = 32;
+pub const FIRST_AT: usize = 40;
 
-pub const SECOND_AT: usize = 36;
+pub const SECOND_AT: usize = 44;
 
-pub const THIRD_AT: usize = 40;
+pub const THIRD_AT: usize = 48;
 
-pub const COUNT_AT: usize = 44;
+pub const COUNT_AT: usize = 52;
 
-pub const RECORD_LENGTH: usize = 45;
+pub const RECORD_LENGTH: usize = 53;
 
 pub enum Written {
     Done,
     Refused(Refusal),
 }
 
-// X, Y, E and S.
+// X, Y, E and S, which has two words, the high one first.
 fn put_disk(buf: &mut [u8], d: Disk)
-    requires { ⌜ firstAt ≤ length (now buf) ⌝ }
-    ensures { λ _. ⌜ now (buf .exit) ≡ sets (now (buf .entry)) xAt (diskBytes d) ⌝ }
+    requires { ⌜ firstAt sWidth ≤ length (now buf) ⌝ }
+    ensures { λ _. ⌜ now (buf .exit) ≡ sets (now (buf .entry)) xAt (diskBytes sWidth (numbers d)) ⌝ }
 {
     let x = d.x;
     let y = d.y;
     big_endian::put_signed_at(buf, X_AT, NUMBER_WIDTH, x);
     big_endian::put_signed_at(buf, Y_AT, NUMBER_WIDTH, y);
     big_endian::put_at(buf, E_AT, NUMBER_WIDTH, d.e);
-    big_endian::put_at(buf, S_AT, NUMBER_WIDTH, d.s);
+    let s = d.s;
+    big_endian::put_at(buf, S_AT, NUMBER_WIDTH, s.hi);
+    big_endian::put_at(buf, S_AT + NUMBER_WIDTH, NUMBER_WIDTH, s.lo);
 }
 
 // x and y.
@@ -75,7 +77,7 @@ fn put_point(buf: &mut [u8], at: usize, p: Point)
 // Three points, and how many of them are meant.
 fn put_three(buf: &mut [u8], a: Point, b: Point, c: Point, n: u64)
     requires { ⌜ recordLength ≤ length (now buf) ⌝ }
-    ensures { λ _. ⌜ now (buf .exit) ≡ sets (now (buf .entry)) firstAt (pointsBytes (a ∷ b ∷ c ∷ []) ++ bytesOf countWidth n) ⌝ }
+    ensures { λ _. ⌜ now (buf .exit) ≡ sets (now (buf .entry)) (firstAt sWidth) (pointsBytes (a ∷ b ∷ c ∷ []) ++ bytesOf countWidth n) ⌝ }
 {
     put_point(buf, FIRST_AT, a);
     put_point(buf, SECOND_AT, b);
@@ -86,7 +88,7 @@ fn put_three(buf: &mut [u8], a: Point, b: Point, c: Point, n: u64)
 // Three points, the last repeated where there are fewer, and their count.
 fn put_points(buf: &mut [u8], t: SupportSet)
     requires { ⌜ recordLength ≤ length (now buf) ⌝ }
-    ensures { λ _. ⌜ now (buf .exit) ≡ sets (now (buf .entry)) firstAt (pointsBytes (madeThree (members t)) ++ countBytes (members t)) ⌝ }
+    ensures { λ _. ⌜ now (buf .exit) ≡ sets (now (buf .entry)) (firstAt sWidth) (pointsBytes (madeThree (members t)) ++ countBytes (members t)) ⌝ }
 {
     match t {
         SupportSet::One(a) => put_three(buf, a, a, a, 1),
@@ -97,8 +99,8 @@ fn put_points(buf: &mut [u8], t: SupportSet)
 
 // Writes the record of d and t to the first bytes of buf and leaves the rest.
 pub fn write_record(d: Disk, t: SupportSet, buf: &mut [u8]) -> Written
-    ensures { λ r. ⌜ outcome r ≡ writeOf d (members t) (now (buf .entry)) ⌝ }
-    ensures { λ r. ⌜ now (buf .exit) ≡ bufferAfter d (members t) (now (buf .entry)) ⌝ }
+    ensures { λ r. ⌜ outcome r ≡ writeOf (numbers d) (members t) (now (buf .entry)) ⌝ }
+    ensures { λ r. ⌜ now (buf .exit) ≡ bufferAfter (numbers d) (members t) (now (buf .entry)) ⌝ }
 {
     if buf.len() < RECORD_LENGTH {
         return Written::Refused(Refusal::NoRoom);

@@ -15,9 +15,8 @@ use lib.IntN.{ℤ, pos, negsuc, negℤ, natAbs, _+ℤ_, _-ℤ_, _*ℤ_}
 use lib.Signed.{ltZ}
 use Rattle.integers.specs.Order.{Within, _≺_}
 use Rattle.geometry.specs.declared.Point.{Point}
-use Rattle.geometry.specs.declared.Disk.{Disk}
 use Rattle.geometry.specs.EmBox.{em, leftOfBox, largest}
-use Rattle.geometry.specs.Plane.{holds}
+use Rattle.geometry.specs.Plane.{Disk, holds}
 use Rattle.disks.specs.Procedure.{Cover, empty, disk, lowestTerms, norm}
 use Rattle.relative_disks.specs.declared.RelativeDisk.{RelativeDisk}
 

@@ -13,7 +13,7 @@ use lib.IntN.{ℤ}
 use Rattle.answers.specs.Outcome.{Outcome, given, refused}
 use Rattle.integers.proofs.Tests.{true-test}
 use Rattle.geometry.specs.declared.Point.{Point}
-use Rattle.geometry.specs.declared.Disk.{Disk}
+use Rattle.geometry.specs.Plane.{Disk}
 use Rattle.geometry.specs.EmBox.{em, inEmBox}
 use Rattle.geometry.specs.Points.{points}
 use Rattle.geometry.proofs.EmBox.{inside-test}

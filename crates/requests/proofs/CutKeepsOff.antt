@@ -19,8 +19,7 @@ use Rattle.integers.specs.Order.{_≼_, _≺_}
 use Rattle.integers.proofs.Ring.{poly}
 use Rattle.integers.proofs.Order.{pos-le, le-pos, <-to-≤, ≤-to-<, ≤-<-trans, nonneg, nonneg-by, nn, le, lt, _⊠_}
 use Rattle.geometry.specs.declared.Point.{Point}
-use Rattle.geometry.specs.declared.Disk.{Disk}
-use Rattle.geometry.specs.Plane.{distance, holds}
+use Rattle.geometry.specs.Plane.{Disk, distance, holds}
 use Rattle.geometry.specs.Points.{points}
 use Rattle.point_lists.specs.Sets.{In}
 use Rattle.disks.specs.Smallest.{RationalDisk, Fits, Smallest}

@@ -24,7 +24,7 @@ use Rattle.integers.proofs.Order.{≡-cancel}
 use Rattle.integers.proofs.Laws.{*-comm, *-assoc}
 use Rattle.integers.proofs.Signs.{not-zero}
 use Rattle.geometry.specs.declared.Point.{Point}
-use Rattle.geometry.specs.declared.Disk.{Disk}
+use Rattle.geometry.specs.Plane.{Disk}
 use Rattle.geometry.specs.EmBox.{inEmBox}
 use Rattle.geometry.specs.Points.{firstPoints}
 use Rattle.point_lists.specs.Put.{putAt}

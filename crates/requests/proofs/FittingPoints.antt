@@ -15,7 +15,7 @@ use lib.IntN.{ℤ}
 use lib.ListN.{length}
 use Rattle.answers.specs.Outcome.{given, refused}
 use Rattle.geometry.specs.declared.Point.{Point}
-use Rattle.geometry.specs.declared.Disk.{Disk}
+use Rattle.geometry.specs.Plane.{Disk}
 use Rattle.geometry.specs.Points.{flat}
 use Rattle.geometry.proofs.EmBox.{inside-all}
 use Rattle.point_lists.proofs.Sets.{same-refl}

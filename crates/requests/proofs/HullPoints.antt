@@ -15,7 +15,7 @@ use lib.Seq.{take-at}
 use Rattle.answers.specs.Outcome.{given}
 use Rattle.answers.proofs.OutcomeLaws.{both-given, given-same}
 use Rattle.geometry.specs.declared.Point.{Point}
-use Rattle.geometry.specs.declared.Disk.{Disk}
+use Rattle.geometry.specs.Plane.{Disk}
 use Rattle.geometry.specs.Points.{points, flat}
 use Rattle.geometry.proofs.PointLists.{length-flat, points-of-flat}
 use Rattle.point_lists.specs.Sets.{has, In}

@@ -10,7 +10,7 @@ use borrow.Author.Tests.{lt-ltb, ne-eqb}
 use lib.ListN.{length, getD, take}
 use Rattle.answers.specs.Outcome.{Outcome, given}
 use Rattle.geometry.specs.declared.Point.{Point}
-use Rattle.geometry.specs.declared.Disk.{Disk}
+use Rattle.geometry.specs.Plane.{Disk}
 use Rattle.record_writer.specs.Layout.{firstAt, secondAt, thirdAt}
 use Rattle.record_writer.specs.Writing.{writeOf, bufferAfter}
 use Rattle.record_reader.specs.Reading.{pointIn, readOf}

@@ -10,7 +10,7 @@ use native.Mathlib.Omega.{arith}
 use lib.IntN.{ℤ, pos, _*ℤ_}
 use Rattle.integers.proofs.Order.{≤-of-eq, <-≤-clash, Compared, less, same, more, compared}
 use Rattle.geometry.specs.declared.Point.{Point}
-use Rattle.geometry.specs.declared.Disk.{Disk}
+use Rattle.geometry.specs.Plane.{Disk}
 use Rattle.point_lists.specs.Sets.{Different}
 use Rattle.disks.specs.Procedure.{Cover, disk, outside, circle, boundaryDisk, State, tested, run, run-empty, run-last, mtf}
 use Rattle.disks.specs.Runs.{Runs, at-once, stays, moves}

@@ -15,7 +15,7 @@ use lib.Signed.{_≤ℤ_}
 use Rattle.answers.specs.Outcome.{Outcome, given, refused, andThen}
 use Rattle.answers.proofs.OutcomeLaws.{not-given}
 use Rattle.geometry.specs.declared.Point.{Point}
-use Rattle.geometry.specs.declared.Disk.{Disk}
+use Rattle.geometry.specs.Plane.{Disk}
 use Rattle.geometry.specs.EmBox.{em, Inside, inEmBox, WithinLimits}
 use Rattle.geometry.specs.Points.{points, flat}
 use Rattle.geometry.proofs.PointLists.{length-flat, points-of-flat}

@@ -16,7 +16,7 @@ use lib.IntN.{ℤ}
 use Rattle.answers.specs.Outcome.{given, refused}
 use Rattle.divisors.specs.Divisor.{Reduced}
 use Rattle.geometry.specs.declared.Point.{Point}
-use Rattle.geometry.specs.declared.Disk.{Disk}
+use Rattle.geometry.specs.Plane.{Disk}
 use Rattle.geometry.specs.Points.{points}
 use Rattle.point_lists.specs.Sets.{In}
 use Rattle.disks.specs.Smallest.{RationalDisk, Fits, SmallestWith}

@@ -15,8 +15,7 @@ use lib.Ieee.Exact.{HasValue}
 use Rattle.answers.specs.Outcome.{given}
 use Rattle.integers.specs.Order.{_≺_}
 use Rattle.geometry.specs.declared.Point.{Point}
-use Rattle.geometry.specs.declared.Disk.{Disk}
-use Rattle.geometry.specs.Plane.{distance, holds}
+use Rattle.geometry.specs.Plane.{Disk, distance, holds}
 use Rattle.geometry.specs.Points.{points}
 use Rattle.point_lists.specs.Sets.{In}
 use Rattle.description.specs.Description.{named}

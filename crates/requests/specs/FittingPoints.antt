@@ -19,7 +19,7 @@ use lib.IntN.{ℤ}
 use lib.ListN.{length}
 use Rattle.answers.specs.Outcome.{given, refused}
 use Rattle.geometry.specs.declared.Point.{Point}
-use Rattle.geometry.specs.declared.Disk.{Disk}
+use Rattle.geometry.specs.Plane.{Disk}
 use Rattle.geometry.specs.Points.{flat}
 use Rattle.disks.specs.Smallest.{Smallest}
 use Rattle.disks.specs.FirstSupport.{IsSupport, IsFirstSupport}

@@ -11,7 +11,7 @@ use lib.IntN.{ℤ}
 use lib.ListN.{length, getD, take}
 use Rattle.answers.specs.Outcome.{given, refused}
 use Rattle.geometry.specs.declared.Point.{Point}
-use Rattle.geometry.specs.declared.Disk.{Disk}
+use Rattle.geometry.specs.Plane.{Disk}
 use Rattle.belonging.specs.Belonging.{Belong}
 use Rattle.record_writer.specs.Layout.{firstAt, secondAt, thirdAt}
 use Rattle.record_writer.specs.Bytes.{diskBytes, pointsBytes, madeThree}

@@ -16,7 +16,7 @@ use lib.ListN.{length}
 use Rattle.answers.specs.Outcome.{given, andThen}
 use Rattle.integers.specs.Order.{_≼_}
 use Rattle.geometry.specs.declared.Point.{Point}
-use Rattle.geometry.specs.declared.Disk.{Disk}
+use Rattle.geometry.specs.Plane.{Disk}
 use Rattle.geometry.specs.EmBox.{em, Inside, WithinLimits}
 use Rattle.geometry.specs.Points.{flat}
 use Rattle.point_lists.specs.Sets.{In}

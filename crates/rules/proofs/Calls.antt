@@ -14,7 +14,7 @@ use lib.Signed.{leZ}
 use Rattle.answers.specs.Outcome.{Outcome, given, refuseIf, andThen}
 use Rattle.integers.proofs.Tests.{both, test-true, between-low, between-high}
 use Rattle.geometry.specs.declared.Point.{Point}
-use Rattle.geometry.specs.declared.Disk.{Disk}
+use Rattle.geometry.specs.Plane.{Disk}
 use Rattle.geometry.specs.EmBox.{em, Inside, inEmBox, allInEmBox}
 use Rattle.geometry.specs.Points.{points}
 use Rattle.geometry.proofs.PointLists.{firstPoints-all, length-firstPoints}

@@ -12,7 +12,7 @@ use lib.ListN.{length}
 use Rattle.answers.specs.Outcome.{given}
 use Rattle.integers.proofs.Tests.{first, rest, both, test-true, true-test}
 use Rattle.geometry.specs.declared.Point.{Point}
-use Rattle.geometry.specs.declared.Disk.{Disk}
+use Rattle.geometry.specs.Plane.{Disk}
 use Rattle.geometry.specs.EmBox.{em}
 use Rattle.geometry.proofs.EmBox.{all-inside, inside-all}
 use Rattle.point_lists.proofs.Rising.{rising-test}

@@ -24,7 +24,7 @@ use lib.ListN.{length, getD}
 use Rattle.divisors.specs.Divisor.{Reduced}
 use Rattle.integers.specs.Order.{_≼_}
 use Rattle.geometry.specs.declared.Point.{Point}
-use Rattle.geometry.specs.declared.Disk.{Disk}
+use Rattle.geometry.specs.Plane.{Disk}
 use Rattle.geometry.specs.EmBox.{em, Inside, WithinLimits}
 use Rattle.geometry.specs.Points.{points}
 use Rattle.point_lists.specs.Sets.{In}

@@ -19,8 +19,7 @@ use Rattle.integers.proofs.Order.{eqZ-eq, ≤-of-eq, ≤-of-<, <-≤-clash, <-t
 use Rattle.integers.proofs.Laws.{eq-of-sub}
 use Rattle.integers.proofs.Ring.{poly, linear, eqn, _&_}
 use Rattle.geometry.specs.declared.Point.{Point}
-use Rattle.geometry.specs.declared.Disk.{Disk}
-use Rattle.geometry.specs.Plane.{distance}
+use Rattle.geometry.specs.Plane.{Disk, distance}
 use Rattle.geometry.specs.Order.{before}
 use Rattle.point_lists.specs.Sets.{In}
 use Rattle.point_lists.specs.Rising.{insert, sorted, Rising}

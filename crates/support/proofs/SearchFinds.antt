@@ -18,7 +18,7 @@ use lib.Signed.{_<ℤ_}
 use Rattle.integers.proofs.Ring.{poly, linear, eqn, _&_}
 use Rattle.integers.proofs.Order.{≡-cancel}
 use Rattle.geometry.specs.declared.Point.{Point}
-use Rattle.geometry.specs.declared.Disk.{Disk}
+use Rattle.geometry.specs.Plane.{Disk}
 use Rattle.geometry.specs.EmBox.{em, allInEmBox, WithinLimits}
 use Rattle.geometry.proofs.EmBox.{box-members}
 use Rattle.point_lists.specs.Sets.{In}

@@ -1,22 +1,24 @@
 // The first support set of a list (01: the first rim set): a search through the points on the boundary of the smallest disk.
+use boundary_powers::BoundaryPower;
 use geometry::Disk;
 use geometry::SupportSet;
 use support_span::Span;
 ghost use mathlib.Core.Path.{_≡_};
 ghost use Prim.Native.Nat.{_*_, _≤_};
 ghost use lib.ListN.{length};
-ghost use Rattle.geometry.specs.Plane.{members};
+ghost use Rattle.geometry.specs.Plane.{members, numbers};
 ghost use Rattle.geometry.specs.Points.{points, firstPoints};
 ghost use Rattle.disks.specs.Support.{firstSupport};
 ghost use Rattle.support_search.specs.Search.{firstFit};
+ghost use Rattle.boundary_powers.specs.Power.{OfBoundary};
 ghost use Rattle.support.specs.Asked.{Asked};
 
 // Writes points of the list on the disk's boundary to `out`, rising and each once, and returns how many there are: those among which the
 // search finds the first support set. The procedure leaves the points that fix the disk in front, so that two that do span much early.
-fn collect(list: &[i16], disk: Disk, out: &mut [i16]) -> usize
-    requires { ⌜ Asked (now list) disk × (length (now list) ≤ length (now out)) ⌝ }
+fn collect(list: &[i16], disk: Disk, shared: BoundaryPower, out: &mut [i16]) -> usize
+    requires { ⌜ Asked (now list) (numbers disk) × (length (now list) ≤ length (now out)) × OfBoundary (numbers disk) shared ⌝ }
     ensures room { λ r. ⌜ 2 * r ≤ length (now (out .exit)) ⌝ }
-    ensures left { λ r. ⌜ firstFit disk (firstPoints r (now (out .exit))) ≡ firstSupport (points (now (list .entry))) ⌝ }
+    ensures left { λ r. ⌜ firstFit (numbers disk) (firstPoints r (now (out .exit))) ≡ firstSupport (points (now (list .entry))) ⌝ }
 {
     let mut m: usize = 0;
     let mut span = Span { lo: 0, hi: 0 };
@@ -25,7 +27,7 @@ fn collect(list: &[i16], disk: Disk, out: &mut [i16]) -> usize
     while i < n {
         let p = geometry::point_at(list, i);
         i += 1;
-        if !support_span::is_spanned(span, p.x) && support_tests::on_boundary(disk, p) {
+        if !support_span::is_spanned(span, p.x) && boundary_powers::on_boundary(disk, shared, p) {
             let size = rising_lists::insert_point(out, m, p);
             if m < size {
                 span = support_span::span_with(out, size, disk, p, span);
@@ -36,18 +38,19 @@ fn collect(list: &[i16], disk: Disk, out: &mut [i16]) -> usize
     m
 }
 
-// The search, with room lent for the boundary points.
+// The search, with room lent for the boundary points. The procedure leaves a point of the boundary in front.
 fn search_in(list: &[i16], disk: Disk, room: &mut [i16]) -> SupportSet
-    requires { ⌜ Asked (now list) disk × (length (now list) ≤ length (now room)) ⌝ }
+    requires { ⌜ Asked (now list) (numbers disk) × (length (now list) ≤ length (now room)) ⌝ }
     ensures { λ r. ⌜ members r ≡ firstSupport (points (now (list .entry))) ⌝ }
 {
-    let n = collect(list, disk, room);
+    let shared = boundary_powers::shared_power(disk, geometry::point_at(list, 0));
+    let n = collect(list, disk, shared, room);
     support_search::search(room, n, disk)
 }
 
 // Most lists are short, and clearing room for the longest would take as long as the search.
 fn search_short(list: &[i16], disk: Disk) -> SupportSet
-    requires { ⌜ Asked (now list) disk × (length (now list) ≤ 256) ⌝ }
+    requires { ⌜ Asked (now list) (numbers disk) × (length (now list) ≤ 256) ⌝ }
     ensures { λ r. ⌜ members r ≡ firstSupport (points (now (list .entry))) ⌝ }
 {
     let mut room = [0i16; 256];
@@ -55,7 +58,7 @@ fn search_short(list: &[i16], disk: Disk) -> SupportSet
 }
 
 fn search_long(list: &[i16], disk: Disk) -> SupportSet
-    requires { ⌜ Asked (now list) disk ⌝ }
+    requires { ⌜ Asked (now list) (numbers disk) ⌝ }
     ensures { λ r. ⌜ members r ≡ firstSupport (points (now (list .entry))) ⌝ }
 {
     let mut room = [0i16; 8192];
@@ -64,7 +67,7 @@ fn search_long(list: &[i16], disk: Disk) -> SupportSet
 
 // The first support set of the list (01: the first rim set), whose smallest disk is given.
 pub fn first_support(list: &[i16], disk: Disk) -> SupportSet
-    requires { ⌜ Asked (now list) disk ⌝ }
+    requires { ⌜ Asked (now list) (numbers disk) ⌝ }
     ensures { λ r. ⌜ members r ≡ firstSupport (points (now (list .entry))) ⌝ }
 {
     if list.len() <= 256 {

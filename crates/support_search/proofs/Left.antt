@@ -19,7 +19,7 @@ use native.Mathlib.Omega.{arith}
 use lib.IntN.{ℤ}
 use lib.ListN.{length, drop}
 use Rattle.geometry.specs.declared.Point.{Point}
-use Rattle.geometry.specs.declared.Disk.{Disk}
+use Rattle.geometry.specs.Plane.{Disk}
 use Rattle.geometry.specs.Points.{points, firstPoints}
 use Rattle.disks.specs.Support.{fronted, choose, candidates, firstOf}
 use Rattle.disks.proofs.Choose.{Among, choose-length}

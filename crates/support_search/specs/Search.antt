@@ -3,7 +3,7 @@
 --   firstFit d Q  == of the sets of one, then two, then three points of Q, each in Q's order, the first that passes its test
 use mathlib.Core.List.{List}
 use Rattle.geometry.specs.declared.Point.{Point}
-use Rattle.geometry.specs.declared.Disk.{Disk}
+use Rattle.geometry.specs.Plane.{Disk}
 use Rattle.disks.specs.Support.{candidates, firstOf}
 use Rattle.support_tests.specs.Tests.{fits}
 

@@ -12,7 +12,7 @@ use Rattle.integers.specs.Order.{eqZ}
 use Rattle.integers.proofs.Tests.{true-test}
 use Rattle.integers.proofs.Laws.{+-comm}
 use Rattle.geometry.specs.declared.Point.{Point}
-use Rattle.geometry.specs.declared.Disk.{Disk}
+use Rattle.geometry.specs.Plane.{Disk}
 use Rattle.point_lists.specs.Sets.{In}
 use Rattle.point_lists.specs.Rising.{insert}
 use Rattle.point_lists.proofs.Rising.{insert-old}

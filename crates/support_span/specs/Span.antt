@@ -9,7 +9,7 @@ use lib.Dec.{T}
 use lib.IntN.{ℤ}
 use lib.Signed.{ltZ, _<ℤ_}
 use Rattle.geometry.specs.declared.Point.{Point}
-use Rattle.geometry.specs.declared.Disk.{Disk}
+use Rattle.geometry.specs.Plane.{Disk}
 use Rattle.point_lists.specs.Sets.{In}
 use Rattle.support_tests.specs.Tests.{opposite}
 use Rattle.support_span.specs.declared.Span.{Span}

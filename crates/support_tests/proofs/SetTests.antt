@@ -16,8 +16,7 @@ use Rattle.integers.proofs.Order.{eqZ-eq, eq-eqZ, ≡-cancel, sum-squares-zero}
 use Rattle.integers.proofs.Laws.{eq-of-sub}
 use Rattle.integers.proofs.Ring.{ring, poly, linear, eqn, _&_}
 use Rattle.geometry.specs.declared.Point.{Point}
-use Rattle.geometry.specs.declared.Disk.{Disk}
-use Rattle.geometry.specs.Plane.{distance}
+use Rattle.geometry.specs.Plane.{Disk, distance}
 use Rattle.disks.proofs.Lifted.{Lifted, value}
 use Rattle.disks.proofs.Minimal.{StronglyMinimal}
 use Rattle.disks.proofs.Base.{positive-not-zero}

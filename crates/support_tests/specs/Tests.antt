@@ -17,9 +17,8 @@ use lib.IntN.{ℤ, pos, natAbs, _+ℤ_, _-ℤ_, _*ℤ_}
 use lib.Signed.{ltZ}
 use Rattle.integers.specs.Order.{eqZ}
 use Rattle.geometry.specs.declared.Point.{Point}
-use Rattle.geometry.specs.declared.Disk.{Disk}
 use Rattle.geometry.specs.EmBox.{em, largest}
-use Rattle.geometry.specs.Plane.{distance}
+use Rattle.geometry.specs.Plane.{Disk, distance}
 
 unfoldable pub onBoundaryTest : Disk → Point → Bool
 onBoundaryTest d p = eqZ (distance d p) (pos (d .s))

@@ -3,9 +3,8 @@ use geometry::Disk;
 use geometry::Point;
 use geometry::minus;
 ghost use mathlib.Core.Path.{_≡_};
-ghost use lib.Dec.{T};
 ghost use lib.IntN.{pos, _-ℤ_, _*ℤ_};
-ghost use Rattle.geometry.specs.EmBox.{em, inEmBox, WithinLimits};
+ghost use Rattle.geometry.specs.Plane.{numbers};
 ghost use Rattle.support_tests.specs.Tests.{onBoundaryTest, midway, opposite, acuteAt, acute, SmallPair, SmallDisk};
 
 // v·e − c
@@ -16,14 +15,15 @@ fn offset(v: i16, e: u64, c: i64) -> i64
     geometry::wide(v) * (e as i64) - c
 }
 
-// Whether p is on the disk's boundary (01: on the rim).
+// Whether p is on the disk's boundary (01: on the rim), by its distance from the centre.
 pub fn on_boundary(disk: Disk, p: Point) -> bool
-    requires { ⌜ WithinLimits em disk × T (inEmBox p) ⌝ }
-    ensures { λ r. ⌜ r ≡ onBoundaryTest disk p ⌝ }
+    requires { ⌜ SmallDisk (numbers disk) ⌝ }
+    ensures { λ r. ⌜ r ≡ onBoundaryTest (numbers disk) p ⌝ }
 {
     let a = offset(p.x, disk.e, disk.x);
     let b = offset(p.y, disk.e, disk.y);
-    a * a + b * b == disk.s as i64
+    let s = disk.s;
+    wide_numbers::is_same(wide_numbers::sum_of_squares(a, b), s)
 }
 
 // (a + b)e = 2c
@@ -36,8 +36,8 @@ fn is_midway(a: i16, b: i16, e: u64, c: i64) -> bool
 
 // Whether p and q are the ends of a diameter of the disk, where both are on its boundary.
 pub fn is_opposite(disk: Disk, p: Point, q: Point) -> bool
-    requires { ⌜ SmallDisk disk ⌝ }
-    ensures { λ r. ⌜ r ≡ opposite disk p q ⌝ }
+    requires { ⌜ SmallDisk (numbers disk) ⌝ }
+    ensures { λ r. ⌜ r ≡ opposite (numbers disk) p q ⌝ }
 {
     is_midway(p.x, q.x, disk.e, disk.x) && is_midway(p.y, q.y, disk.e, disk.y)
 }

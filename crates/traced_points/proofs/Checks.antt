@@ -15,7 +15,7 @@ use lib.IntN.{ℤ}
 use lib.ListN.{length}
 use Rattle.answers.specs.Outcome.{given, refused}
 use Rattle.answers.proofs.OutcomeLaws.{not-refused, same-given, both-given}
-use Rattle.geometry.specs.declared.Disk.{Disk}
+use Rattle.geometry.specs.Plane.{Disk}
 use Rattle.geometry.specs.EmBox.{allInEmBox}
 use Rattle.disks.specs.Procedure.{diskOf}
 use Rattle.tracings.specs.declared.TracedPoint.{TracedPoint}

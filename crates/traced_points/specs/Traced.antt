@@ -15,7 +15,7 @@ use lib.IntN.{ℤ, pos}
 use lib.ListN.{length}
 use Rattle.answers.specs.Outcome.{Outcome, given, refused, numberOf, refuseIf, andThen}
 use Rattle.integers.specs.Order.{between}
-use Rattle.geometry.specs.declared.Disk.{Disk}
+use Rattle.geometry.specs.Plane.{Disk, numbers}
 use Rattle.geometry.specs.EmBox.{allInEmBox}
 use Rattle.disks.specs.Procedure.{diskOf}
 use Rattle.tracings.specs.declared.TracedPoint.{TracedPoint}
@@ -39,7 +39,7 @@ firstFault [] = given tt
 firstFault (s ∷ ss) = andThen (fault s) (λ u. firstFault ss)
 
 abbrev pub outcome : Traced → Outcome Disk
-outcome (Found d) = given d
+outcome (Found d) = given (numbers d)
 outcome (Refused r) = refused (numberOf r)
 
 -- "9, 5 and 4 first"

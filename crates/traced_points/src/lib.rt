@@ -14,6 +14,7 @@ ghost use Rattle.integers.specs.Order.{_≼_, between, Within};
 ghost use Rattle.geometry.specs.EmBox.{allInEmBox};
 ghost use Rattle.disks.specs.Procedure.{diskOf};
 ghost use Rattle.tracings.specs.Squares.{traced, corners, allCorners};
+ghost use Rattle.geometry.specs.Plane.{numbers};
 ghost use Rattle.traced_points.specs.Traced.{tolerated, fault, firstFault, outcome, tracedOf};
 ghost use Rattle.traced_points.specs.Checks.{verdict, Checks, Accepted};
 
@@ -98,7 +99,7 @@ fn check(list: &[i16]) -> Checked
 // The disk of the corners of all squares, with room lent for them.
 fn solve(list: &[i16], room: &mut [i16]) -> Disk
     requires { ⌜ Accepted (now list) ⌝ ∗ ⌜ length (now room) ≡ 8 * (length (now list) / 3) ⌝ }
-    ensures { λ r. ⌜ r ≡ diskOf (allCorners (traced (now (list .entry)))) ⌝ }
+    ensures { λ r. ⌜ numbers r ≡ diskOf (allCorners (traced (now (list .entry)))) ⌝ }
 {
     square_corners::lay_out(list, room);
     let run = welzl::smallest(room);
@@ -108,7 +109,7 @@ fn solve(list: &[i16], room: &mut [i16]) -> Disk
 // Most lists are short, and clearing room for the longest would take a good part of their time.
 fn solve_short(list: &[i16]) -> Disk
     requires { ⌜ Accepted (now list) ⌝ ∗ ⌜ length (now list) ≤ 96 ⌝ }
-    ensures { λ r. ⌜ r ≡ diskOf (allCorners (traced (now (list .entry)))) ⌝ }
+    ensures { λ r. ⌜ numbers r ≡ diskOf (allCorners (traced (now (list .entry)))) ⌝ }
 {
     let mut room = [0i16; 256];
     let m = 8 * (list.len() / 3);
@@ -117,7 +118,7 @@ fn solve_short(list: &[i16]) -> Disk
 
 fn solve_long(list: &[i16]) -> Disk
     requires { ⌜ Accepted (now list) ⌝ }
-    ensures { λ r. ⌜ r ≡ diskOf (allCorners (traced (now (list .entry)))) ⌝ }
+    ensures { λ r. ⌜ numbers r ≡ diskOf (allCorners (traced (now (list .entry)))) ⌝ }
 {
     let mut room = [0i16; 8192];
     let m = 8 * (list.len() / 3);

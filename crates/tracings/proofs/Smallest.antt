@@ -16,8 +16,7 @@ use Rattle.integers.proofs.Laws.{+-zero}
 use Rattle.integers.proofs.Ring.{poly}
 use Rattle.integers.proofs.Order.{nonneg, nonneg-by, le, sq, _⊠_}
 use Rattle.geometry.specs.declared.Point.{Point}
-use Rattle.geometry.specs.declared.Disk.{Disk}
-use Rattle.geometry.specs.Plane.{distance, holds}
+use Rattle.geometry.specs.Plane.{Disk, distance, holds}
 use Rattle.point_lists.specs.Sets.{In, Same}
 use Rattle.point_lists.proofs.Sets.{point-path, none-of, also, same-refl}
 use Rattle.disks.specs.Smallest.{Smallest}

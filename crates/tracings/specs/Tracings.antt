@@ -18,7 +18,7 @@ use Prim.Native.Nat.{ℕ, _*_, _≤_}
 use lib.IntN.{ℤ, pos, _+ℤ_, _-ℤ_, _*ℤ_}
 use Rattle.divisors.specs.Divisor.{Reduced}
 use Rattle.integers.specs.Order.{_≼_}
-use Rattle.geometry.specs.declared.Disk.{Disk}
+use Rattle.geometry.specs.Plane.{Disk}
 use Rattle.geometry.specs.declared.Limits.{Limits}
 use Rattle.disks.specs.Smallest.{RationalDisk}
 use Rattle.tracings.specs.declared.TracedPoint.{TracedPoint}

@@ -1,6 +1,6 @@
 -- What a valid disk and its points are known to keep to, by whatever limits.
 --
---   narrow-em              : the limits of the em are narrow
+--   narrow-em, narrow-old  : the limits of the em are narrow, and those of records of 45 bytes
 --   scaled-fits            : a limit of the box times E fits
 --   DiskBounds l d         == the limits of E, X, Y and S, as facts
 --   limits                 : a valid disk keeps to them
@@ -26,19 +26,21 @@ use Rattle.integers.proofs.Abs.{abs-*}
 use Rattle.integers.proofs.Tests.{between-most, between-low, between-high, first, rest, both, test-true, true-test}
 use Rattle.divisors.proofs.LowestTerms.{divides-x, divides-y, divides-e, common-greatest}
 use Rattle.geometry.specs.declared.Point.{Point}
-use Rattle.geometry.specs.declared.Disk.{Disk}
 use Rattle.geometry.specs.declared.Limits.{Limits}
 use Rattle.geometry.specs.declared.SupportSet.{SupportSet}
 use Rattle.geometry.specs.declared.SupportSet.the-variants.{One, Two, Three}
-use Rattle.geometry.specs.Plane.{members}
-use Rattle.geometry.specs.EmBox.{em, allInBox, largest, WithinLimits}
+use Rattle.geometry.specs.Plane.{Disk, members}
+use Rattle.geometry.specs.EmBox.{em, oldEm, allInBox, largest, WithinLimits}
 use Rattle.geometry.proofs.EmBox.{left-size, right-size, foot-size, top-size}
 use Rattle.validity.specs.Narrow.{Narrow}
 use Rattle.validity.specs.Valid.{scaleInLimit, centreInBox, squareInLimit, isLowest, validDiskIn, oneToThree, validPointsIn, validIn}
 use Rattle.point_lists.specs.Rising.{rising}
 
 pub narrow-em : Narrow em
-narrow-em = record { box-fits = tt; scale-fits = tt; centre-fits = tt; squared-fits = lit≤ tt; square-fits = lit≤ tt }
+narrow-em = record { box-fits = tt; scale-fits = tt; centre-fits = tt; squared-fits = lit≤ tt }
+
+pub narrow-old : Narrow oldEm
+narrow-old = record { box-fits = tt; scale-fits = tt; centre-fits = tt; squared-fits = lit≤ tt }
 
 pub scaled-fits : (l : Limits) → Narrow l → T ((ltb (largest l) (2 ^ 63) && ltb (l .scale) (2 ^ 63)) && ltb (largest l * l .scale) (2 ^ 63))
 scaled-fits l n = true-test (both (both (test-true (ltb (largest l) (2 ^ 63)) (n .box-fits)) (test-true (ltb (l .scale) (2 ^ 63)) (n .scale-fits)))

@@ -6,7 +6,7 @@
 --   isLowest d         == no whole number above 1 divides X, Y and E (01: the divisor rule)
 --   oneToThree ps      == there are one, two or three points
 --   validIn l d ps     == a record with the limits l can hold the disk d and the points ps
---   valid d ps         == a record of document 01 can: by the limits of the em
+--   valid d ps         == one by the limits of the em can
 use mathlib.Core.Bool.{Bool, _&&_}
 use mathlib.Core.List.{List}
 use Prim.Native.Nat.{_*_}
@@ -16,7 +16,7 @@ use lib.ListN.{length}
 use Rattle.integers.specs.Order.{between}
 use Rattle.divisors.specs.Divisor.{common}
 use Rattle.geometry.specs.declared.Point.{Point}
-use Rattle.geometry.specs.declared.Disk.{Disk}
+use Rattle.geometry.specs.Plane.{Disk}
 use Rattle.geometry.specs.declared.Limits.{Limits}
 use Rattle.geometry.specs.EmBox.{em, allInBox}
 use Rattle.point_lists.specs.Rising.{rising}

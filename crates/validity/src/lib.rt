@@ -2,16 +2,16 @@
 ghost use mathlib.Core.Path.{_≡_};
 ghost use Prim.Native.Nat.{_≤_};
 ghost use Rattle.geometry.specs.EmBox.{allInBox};
-ghost use Rattle.geometry.specs.Plane.{members};
+ghost use Rattle.geometry.specs.Plane.{members, numbers};
 ghost use Rattle.validity.specs.Narrow.{Narrow};
-ghost use Rattle.validity.specs.Valid.{scaleInLimit, centreInBox, squareInLimit, validPointsIn, isLowest, validDiskIn, validIn, valid};
+ghost use Rattle.validity.specs.Valid.{scaleInLimit, centreInBox, squareInLimit, validPointsIn, isLowest, validDiskIn, validIn};
 ghost use Rattle.point_lists.specs.Rising.{rising};
 use geometry::Disk;
 use geometry::Limits;
 use geometry::SupportSet;
 
 fn scale_in_limit(l: Limits, d: Disk) -> bool
-    ensures { λ r. ⌜ r ≡ scaleInLimit l d ⌝ }
+    ensures { λ r. ⌜ r ≡ scaleInLimit l (numbers d) ⌝ }
 {
     if d.e < 1 {
         return false;
@@ -21,7 +21,7 @@ fn scale_in_limit(l: Limits, d: Disk) -> bool
 
 fn centre_in_box(l: Limits, d: Disk) -> bool
     requires { ⌜ Narrow l × (d .e ≤ l .scale) ⌝ }
-    ensures { λ r. ⌜ r ≡ centreInBox l d ⌝ }
+    ensures { λ r. ⌜ r ≡ centreInBox l (numbers d) ⌝ }
 {
     let e = d.e as i64;
     let x = d.x;
@@ -38,9 +38,9 @@ fn centre_in_box(l: Limits, d: Disk) -> bool
 
 fn square_in_limit(l: Limits, d: Disk) -> bool
     requires { ⌜ Narrow l × (d .e ≤ l .scale) ⌝ }
-    ensures { λ r. ⌜ r ≡ squareInLimit l d ⌝ }
+    ensures { λ r. ⌜ r ≡ squareInLimit l (numbers d) ⌝ }
 {
-    d.s <= l.square * (d.e * d.e)
+    wide_numbers::is_at_most(d.s, wide_numbers::product(l.square, d.e * d.e))
 }
 
 fn is_rising(t: SupportSet) -> bool
@@ -90,7 +90,7 @@ fn points_are_valid(l: Limits, t: SupportSet) -> bool
 }
 
 fn is_lowest(d: Disk) -> bool
-    ensures { λ r. ⌜ r ≡ isLowest d ⌝ }
+    ensures { λ r. ⌜ r ≡ isLowest (numbers d) ⌝ }
 {
     let x = d.x;
     let y = d.y;
@@ -100,7 +100,7 @@ fn is_lowest(d: Disk) -> bool
 // E first: the tests behind it multiply by it.
 fn disk_is_valid(l: Limits, d: Disk) -> bool
     requires { ⌜ Narrow l ⌝ }
-    ensures { λ r. ⌜ r ≡ validDiskIn l d ⌝ }
+    ensures { λ r. ⌜ r ≡ validDiskIn l (numbers d) ⌝ }
 {
     if scale_in_limit(l, d) {
         if is_lowest(d) {
@@ -115,17 +115,10 @@ fn disk_is_valid(l: Limits, d: Disk) -> bool
 // Whether a record with these limits can hold d and t.
 pub fn is_valid_in(l: Limits, d: Disk, t: SupportSet) -> bool
     requires { ⌜ Narrow l ⌝ }
-    ensures { λ r. ⌜ r ≡ validIn l d (members t) ⌝ }
+    ensures { λ r. ⌜ r ≡ validIn l (numbers d) (members t) ⌝ }
 {
     if disk_is_valid(l, d) {
         return points_are_valid(l, t);
     }
     false
-}
-
-// Whether a record can hold d and t.
-pub fn is_valid(d: Disk, t: SupportSet) -> bool
-    ensures { λ r. ⌜ r ≡ valid d (members t) ⌝ }
-{
-    is_valid_in(geometry::em_limits(), d, t)
 }

@@ -6,6 +6,7 @@ ghost use mathlib.Core.Path.{_≡_};
 ghost use Rattle.geometry.specs.Points.{points, flat};
 ghost use Rattle.disks.specs.Procedure.{diskOf, testsOf, orderOf};
 ghost use Rattle.inner_level.specs.Ran.{Given, Ran};
+ghost use Rattle.geometry.specs.Plane.{numbers};
 ghost use Rattle.welzl.specs.WholeList.{AllGiven};
 
 // The smallest disk, and how many tests of a point it took.
@@ -50,7 +51,7 @@ pub fn mtf(list: &mut [i16], n: usize, fixed: Boundary) -> RelativeRun
 // The procedure on the whole list, with no point fixed: the smallest disk, the tests, and the list as the procedure leaves it.
 pub fn smallest(list: &mut [i16]) -> Run
     requires { ⌜ AllGiven (now list) ⌝ }
-    ensures disk { λ r. ⌜ r .disk ≡ diskOf (points (now (list .entry))) ⌝ }
+    ensures disk { λ r. ⌜ numbers (r .disk) ≡ diskOf (points (now (list .entry))) ⌝ }
     ensures tests { λ r. ⌜ r .tests ≡ testsOf (points (now (list .entry))) ⌝ }
     ensures order { λ r. ⌜ now (list .exit) ≡ flat (orderOf (points (now (list .entry)))) ⌝ }
 {

@@ -4,9 +4,8 @@ use mathlib.Core.Bool.{true}
 use mathlib.Core.List.{List·Memᴰ·head, List·Memᴰ·tail}
 use borrow.Author.Needs.{needs}
 use Rattle.integers.proofs.Tests.{stop, pass}
-use Rattle.geometry.specs.declared.Disk.{Disk}
 use Rattle.geometry.specs.declared.SupportSet.{SupportSet}
-use Rattle.geometry.specs.Plane.{members}
+use Rattle.geometry.specs.Plane.{Disk, members, numbers}
 use Rattle.validity.specs.Valid.{valid}
 use Rattle.belonging.specs.Belonging.{belongs}
 use Rattle.belonging.proofs.Known.{known, tested-one, tested-two, tested-three}
@@ -27,7 +26,7 @@ enum-known-t c = search needs
 on-boundary-requires : tie.Need-on-boundary-requires
 on-boundary-requires c κs =
     let s = c .before .before .before in
-    let k = known (s .args .d) _ (still-valid (s .args .d) (c .before .t .given .1) (s .pre)) in (k .within, k .in-box _ (List·Memᴰ·head refl))
+    let k = known (numbers (s .args .d)) _ (still-valid (numbers (s .args .d)) (c .before .t .given .1) (s .pre)) in (k .within, k .in-box _ (List·Memᴰ·head refl))
 
 enum-known-t-2 : tie.Need-enum-known-t-2
 enum-known-t-2 c = search needs
@@ -35,7 +34,7 @@ enum-known-t-2 c = search needs
 is-diameter-requires : tie.Need-is-diameter-requires
 is-diameter-requires c κs =
     let s = c .before .before .before in
-    let k = known (s .args .d) _ (still-valid (s .args .d) (c .before .t2 .given .1) (s .pre)) in (k .within, k .in-box _ (List·Memᴰ·head refl))
+    let k = known (numbers (s .args .d)) _ (still-valid (numbers (s .args .d)) (c .before .t2 .given .1) (s .pre)) in (k .within, k .in-box _ (List·Memᴰ·head refl))
 
 enum-known-t-3 : tie.Need-enum-known-t-3
 enum-known-t-3 c = search needs
@@ -43,7 +42,7 @@ enum-known-t-3 c = search needs
 is-acute-on-requires : tie.Need-is-acute-on-requires
 is-acute-on-requires c κs =
     let s = c .before .before .before in
-    let k = known (s .args .d) _ (still-valid (s .args .d) (c .before .t3 .given .1) (s .pre)) in (
+    let k = known (numbers (s .args .d)) _ (still-valid (numbers (s .args .d)) (c .before .t3 .given .1) (s .pre)) in (
       k .within,
       k .in-box _ (List·Memᴰ·head refl),
       k .in-box _ (List·Memᴰ·tail (List·Memᴰ·head refl)),
@@ -56,8 +55,8 @@ returns c =
     let one = on .before .before .before in
     let s = one .before .before in
     let e = one .t .given .1 in
-    pass (sym (on .before .on-boundary .ensures) ∙ on .if1 .taken) refl ∙ sym (tested-one (s .args .d) _ (still-valid (s .args .d) e (s .pre)))
-    ∙ as-given (s .args .d) e
+    pass (sym (on .before .on-boundary .ensures) ∙ on .if1 .taken) refl ∙ sym (tested-one (numbers (s .args .d)) _ (still-valid (numbers (s .args .d)) e (s .pre)))
+    ∙ as-given (numbers (s .args .d)) e
 
 returns-2 : tie.Need-returns-2
 returns-2 c =
@@ -65,22 +64,22 @@ returns-2 c =
     let s = one .before .before in
     let e = one .t .given .1 in
     c .if1 .left ∙ stop _ (sym (c .before .on-boundary .ensures) ∙ c .if1 .left)
-    ∙ sym (tested-one (s .args .d) _ (still-valid (s .args .d) e (s .pre)))
-    ∙ as-given (s .args .d) e
+    ∙ sym (tested-one (numbers (s .args .d)) _ (still-valid (numbers (s .args .d)) e (s .pre)))
+    ∙ as-given (numbers (s .args .d)) e
 
 returns-3 : tie.Need-returns-3
 returns-3 c =
     let two = c .before .before in
     let s = two .before .before in
     let e = two .t2 .given .1 in
-    c .is-diameter .ensures ∙ sym (tested-two (s .args .d) _ _ (still-valid (s .args .d) e (s .pre))) ∙ as-given (s .args .d) e
+    c .is-diameter .ensures ∙ sym (tested-two (numbers (s .args .d)) _ _ (still-valid (numbers (s .args .d)) e (s .pre))) ∙ as-given (numbers (s .args .d)) e
 
 returns-4 : tie.Need-returns-4
 returns-4 c =
     let three = c .before .before in
     let s = three .before .before in
     let e = three .t3 .given .1 in
-    c .is-acute-on .ensures ∙ sym (tested-three (s .args .d) _ _ _ (still-valid (s .args .d) e (s .pre))) ∙ as-given (s .args .d) e
+    c .is-acute-on .ensures ∙ sym (tested-three (numbers (s .args .d)) _ _ _ (still-valid (numbers (s .args .d)) e (s .pre))) ∙ as-given (numbers (s .args .d)) e
 
 pub belongs-spec : {M : Type 1} → statement M
 belongs-spec =

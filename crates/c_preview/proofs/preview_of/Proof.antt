@@ -4,7 +4,7 @@ use mathlib.Core.List.{List, []}
 use borrow.Author.Needs.{needs}
 use Rattle.answers.specs.Outcome.{refused}
 use Rattle.geometry.specs.declared.Point.{Point}
-use Rattle.geometry.specs.declared.Disk.{Disk}
+use Rattle.geometry.specs.Plane.{Disk, numbers}
 use Rattle.preview.specs.Preview.{previewOf}
 use Rattle.c_types.specs.Support.{setPoints}
 use Rattle.c_preview.specs.Answer.{previewAnswer}
@@ -38,14 +38,14 @@ returns : tie.Need-returns
 returns c =
     let asked = c .before .before .before .before in
     c .preview-answer .ensures
-    ∙ same (asked .before .args .d) (ap setPoints (sym (c .before .before .given .given .1)) ∙ asked .given-set .ensures)
+    ∙ same (numbers (asked .before .args .d)) (ap setPoints (sym (c .before .before .given .given .1)) ∙ asked .given-set .ensures)
 
 returns-2 : tie.Need-returns-2
 returns-2 c =
     let asked = c .before .before .before in
     c .no-preview .ensures
-    ∙ ap previewAnswer (sym (no-preview (asked .before .args .d)))
-    ∙ same (asked .before .args .d) (ap setPoints (sym (c .before .enum-told .given .1)) ∙ asked .given-set .ensures)
+    ∙ ap previewAnswer (sym (no-preview (numbers (asked .before .args .d))))
+    ∙ same (numbers (asked .before .args .d)) (ap setPoints (sym (c .before .enum-told .given .1)) ∙ asked .given-set .ensures)
 
 pub preview-of-spec : {M : Type 1} → statement M
 preview-of-spec =

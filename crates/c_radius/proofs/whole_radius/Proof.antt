@@ -4,7 +4,7 @@ use mathlib.Core.List.{List, []}
 use borrow.Author.Needs.{needs}
 use Rattle.answers.specs.Outcome.{refused}
 use Rattle.geometry.specs.declared.Point.{Point}
-use Rattle.geometry.specs.declared.Disk.{Disk}
+use Rattle.geometry.specs.Plane.{Disk, numbers}
 use Rattle.radius.specs.Radius.{radiusOf}
 use Rattle.c_types.specs.Support.{setPoints}
 use Rattle.c_radius.specs.Answer.{radiusAnswer}
@@ -38,14 +38,14 @@ returns : tie.Need-returns
 returns c =
     let asked = c .before .before .before .before in
     c .radius-answer .ensures
-    ∙ same (asked .before .args .d) (ap setPoints (sym (c .before .before .given .given .1)) ∙ asked .given-set .ensures)
+    ∙ same (numbers (asked .before .args .d)) (ap setPoints (sym (c .before .before .given .given .1)) ∙ asked .given-set .ensures)
 
 returns-2 : tie.Need-returns-2
 returns-2 c =
     let asked = c .before .before .before in
     c .no-radius .ensures
-    ∙ ap radiusAnswer (sym (no-radius (asked .before .args .d)))
-    ∙ same (asked .before .args .d) (ap setPoints (sym (c .before .enum-told .given .1)) ∙ asked .given-set .ensures)
+    ∙ ap radiusAnswer (sym (no-radius (numbers (asked .before .args .d))))
+    ∙ same (numbers (asked .before .args .d)) (ap setPoints (sym (c .before .enum-told .given .1)) ∙ asked .given-set .ensures)
 
 pub whole-radius-spec : {M : Type 1} → statement M
 whole-radius-spec =

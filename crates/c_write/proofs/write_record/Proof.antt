@@ -9,7 +9,7 @@ use lib.Dec.{ltb}
 use lib.ListN.{length}
 use Rattle.answers.specs.Outcome.{Outcome, refused, refuseIf}
 use Rattle.geometry.specs.declared.Point.{Point}
-use Rattle.geometry.specs.declared.Disk.{Disk}
+use Rattle.geometry.specs.Plane.{Disk, numbers}
 use Rattle.record_writer.specs.Writing.{writeOf, leftBy, bufferAfter}
 use Rattle.record_writer.specs.Layout.{recordLength}
 use Rattle.c_types.specs.Support.{setPoints, pointsOf}
@@ -68,7 +68,7 @@ returns-2 c =
     let start = asked .before .before in
     let same = ap setPoints (sym (c .before .before .before .before .before .given .given .1)) ∙ asked .given-set .ensures in
     let written = c .before .before .write-code .ensures in
-    let d = start .args .d in
+    let d = numbers (start .args .d) in
     let buf = start .args .buf .now in
     (written .0 ∙ ap (λ (ps : List Point). codeOf (writeOf d ps buf)) same, written .1 ∙ ap (λ (ps : List Point). bufferAfter d ps buf) same)
 

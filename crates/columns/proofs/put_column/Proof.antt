@@ -11,7 +11,7 @@ use mir.Val.{toZ, ofZ}
 use Rattle.geometry.proofs.Coordinates.{stored}
 use Rattle.point_lists.specs.Put.{putAt}
 use Rattle.point_lists.proofs.Sets.{point-path}
-use Rattle.columns.specs.Columns.{at}
+use Rattle.columns.specs.Columns.{at, columnCount}
 use Rattle.columns.proofs.Writing.{moved, skipped, one-more}
 use Rattle.columns.proofs.put_column.Statement.{statement}
 use Rattle.columns.proofs.put_column.Tie as tie
@@ -75,8 +75,8 @@ module _ (c : tie.After-highs) where
   lows-are : c .before .before .before .before .put-point .last .0 ≡ putAt (s .args .lows .now) (s .args .m) (at x lo)
   lows-are = c .before .before .before .before .put-point .ensures ∙ ap (putAt (s .args .lows .now) (s .args .m)) (point-path x-is lo-is)
 
-  highs-are : c .before .put-point2 .last .0 ≡ putAt (s .args .highs .now) (1007 - s .args .m) (at x hi)
-  highs-are = c .before .put-point2 .ensures ∙ ap (putAt (s .args .highs .now) (1007 - s .args .m)) (point-path x-is hi-is)
+  highs-are : c .before .put-point2 .last .0 ≡ putAt (s .args .highs .now) ((columnCount - 1) - s .args .m) (at x hi)
+  highs-are = c .before .put-point2 .ensures ∙ ap (putAt (s .args .highs .now) ((columnCount - 1) - s .args .m)) (point-path x-is hi-is)
 
 returns : tie.Need-returns
 returns c =

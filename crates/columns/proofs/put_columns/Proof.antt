@@ -4,16 +4,16 @@ use mathlib.Core.Logic.{inl, inr}
 use Prim.Native.Nat.{ℕ, _+_, _-_, _*_, _/_, _≤_, _<_}
 use native.Mathlib.Omega.{arith}
 use lib.ListN.{getD}
-use Rattle.columns.specs.Columns.{Written}
+use Rattle.columns.specs.Columns.{Written, columnCount, groupCount}
 use Rattle.columns.proofs.Writing.{written-none, moved, gap}
 use Rattle.columns.proofs.put_columns.Statement.{statement}
 use Rattle.columns.proofs.put_columns.Tie as tie
 
 abbrev Inv-loop : tie.InvT-loop
-Inv-loop low high seen lows₀ highs₀ m₀ g₀ lows highs m g = (g ≤ 63) × (m ≤ 16 * g) × Written (16 * g) m low high lows highs
+Inv-loop low high seen lows₀ highs₀ m₀ g₀ lows highs m g = (g ≤ groupCount) × (m ≤ 16 * g) × Written (16 * g) m low high lows highs
 
 abbrev μ-loop : tie.MeasureT-loop
-μ-loop low high seen lows₀ highs₀ m₀ g₀ lows highs m g = 63 - g
+μ-loop low high seen lows₀ highs₀ m₀ g₀ lows highs m g = groupCount - g
 
 loop-holds : tie.Need-loop-holds Inv-loop μ-loop
 loop-holds c =
@@ -44,7 +44,7 @@ loop-again c =
     let s = c .before .before .before .before .before in
     let low = s .args .low .now in
     let high = s .args .high .now in
-    let more : l .g < 63 = c .before .before .loop-test .taken in
+    let more : l .g < groupCount = c .before .before .loop-test .taken in
     let step : (c .if1 .m ≤ 16 * (l .g + 1)) × Written (16 * (l .g + 1)) (c .if1 .m) low high (c .if1 .lows) (c .if1 .highs) =
     elim (c .if1 .came) [
       | inl w ↦ (omega (arith, w .8, w .3 .ensures .0), moved (w .6) (w .7) (w .8) (w .3 .ensures .1))
@@ -67,7 +67,7 @@ returns : tie.Need-returns Inv-loop μ-loop
 returns c =
     let l = c .before .loop in
     let s = c .before .before .before in
-    let all : 16 * l .g ≡ 1008 = omega (arith, l .inv .0, c .loop-test .left) in
+    let all : 16 * l .g ≡ columnCount = omega (arith, l .inv .0, c .loop-test .left) in
     (omega (arith, l .inv .1, all), subst (λ (k : ℕ). Written k (l .m) (s .args .low .now) (s .args .high .now) (l .lows) (l .highs)) all (l .inv .2))
 
 pub put-columns-spec : {M : Type 1} → statement M

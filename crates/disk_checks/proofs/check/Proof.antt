@@ -1,36 +1,26 @@
--- `disk_checks::check` meets its contract: the two checks in their order.
-use mathlib.Core.Path.{_≡_, sym, _∙_}
-use mathlib.Core.Bool.{true}
+-- `disk_checks::check` meets its contract: the em's limits are narrow.
+use mathlib.Core.Path.{_≡_, sym, ap, _∙_, subst}
 use borrow.Author.Needs.{needs}
-use borrow.Author.Tests.{not-true, not-false}
-use Rattle.geometry.specs.Plane.{members}
-use Rattle.validity.specs.Valid.{valid}
-use Rattle.disk_checks.proofs.CheckLaws.{passes}
+use Rattle.geometry.specs.declared.Limits.{Limits}
+use Rattle.geometry.specs.EmBox.{em}
+use Rattle.geometry.specs.Plane.{numbers, members}
+use Rattle.validity.specs.Narrow.{Narrow, Narrower}
+use Rattle.validity.proofs.ValidLaws.{narrow-em}
+use Rattle.validity.proofs.Wider.{narrower-self}
+use Rattle.disk_checks.specs.Checks.{checkIn}
 use Rattle.disk_checks.proofs.check.Statement.{statement}
 use Rattle.disk_checks.proofs.check.Tie as tie
 
--- a record can hold them
-fine : (c : tie.Else1) → let s = c .before .before in valid (s .args .d) (members (s .args .t)) ≡ true
-fine c = sym (c .before .is-valid .ensures) ∙ not-false (c .before .is-valid .result) (c .if1 .left)
+em-limits-requires : tie.Need-em-limits-requires
+em-limits-requires c κs = search needs
 
-is-valid-requires : tie.Need-is-valid-requires
-is-valid-requires c κs = search needs
+check-in-requires : tie.Need-check-in-requires
+check-in-requires c κs = subst (λ (l : Limits). Narrow l × Narrower l em) (sym (c .em-limits .ensures)) (narrow-em, narrower-self em)
 
 returns : tie.Need-returns
-returns c = rw (sym (c .before .is-valid .ensures) ∙ not-true (c .before .is-valid .result) (c .if1 .taken))
-
-belongs-requires : tie.Need-belongs-requires
-belongs-requires c κs = fine c
-
-returns-2 : tie.Need-returns-2
-returns-2 c =
-    let b = c .before in rw (fine (b .before), sym (b .belongs .ensures) ∙ not-true (b .belongs .result) (c .if2 .taken))
-
-returns-3 : tie.Need-returns-3
-returns-3 c =
-    let b = c .before in
-    let s = b .before .before .before in
-    sym (passes (s .args .d) (members (s .args .t)) (fine (b .before)) (sym (b .belongs .ensures) ∙ not-false (b .belongs .result) (c .if2 .left)))
+returns c =
+    let a = c .before .before .args in
+    c .check-in .ensures ∙ ap (λ (l : Limits). checkIn l (numbers (a .d)) (members (a .t))) (c .before .em-limits .ensures)
 
 pub check-spec : {M : Type 1} → statement M
-check-spec = tie.close (tie.spec is-valid-requires returns belongs-requires returns-2 returns-3)
+check-spec = tie.close (tie.spec em-limits-requires check-in-requires returns)

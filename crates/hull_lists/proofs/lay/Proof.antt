@@ -9,6 +9,7 @@ use Rattle.geometry.specs.Points.{pointAt}
 use Rattle.hull.specs.Chains.{inner}
 use Rattle.hull.specs.Skimmed.{skimChain}
 use Rattle.hull_chains.specs.Spans.{span}
+use Rattle.columns.specs.Columns.{columnCount}
 use Rattle.hull_lists.specs.Enclosed.{closed, enclosed}
 use Rattle.joined_chains.specs.Laid.{laid}
 use Rattle.hull_chains.proofs.Spanning.{span-step}
@@ -29,7 +30,7 @@ module _ (c : tie.After-chain2) where
   A = span 0 m (s .args .lows .now)
 
   abbrev B : List Point
-  B = span (1008 - m) 1008 (s .args .highs .now)
+  B = span (columnCount - m) columnCount (s .args .highs .now)
 
   abbrev lower : List Point
   lower = span (c .before .before .before .chain .result) (c .before .before .before .before .before .before .before .before .before .close .result)
@@ -38,22 +39,22 @@ module _ (c : tie.After-chain2) where
   abbrev upper : List Point
   upper = span (c .chain2 .result) (c .before .before .before .before .before .before .close2 .result) (c .chain2 .last .0)
 
-  lower-is : lower ≡ skimChain (closed A (pointAt (s .args .highs .now) (1008 - m)))
+  lower-is : lower ≡ skimChain (closed A (pointAt (s .args .highs .now) (columnCount - m)))
   lower-is = c .before .before .before .chain .ensures .1
       ∙ ap skimChain (c .before .before .before .before .before .before .before .before .before .close .ensures .1 0 (omega (arith, s .pre .0 .0))
       ∙ ap (closed A) (c .before .before .before .before .before .before .before .before .before .before .before .point-at2 .ensures))
 
   upper-is : upper ≡ skimChain (closed B (pointAt (s .args .lows .now) 0))
   upper-is = c .chain2 .ensures .1
-      ∙ ap skimChain (c .before .before .before .before .before .before .close2 .ensures .1 (1008 - m) (omega (arith, s .pre .0 .0))
+      ∙ ap skimChain (c .before .before .before .before .before .before .close2 .ensures .1 (columnCount - m) (omega (arith, s .pre .0 .0))
       ∙ ap (closed B) (c .before .before .before .before .before .before .before .before .before .before .before .before .before .point-at .ensures))
 
   hull-is : lower ++ inner upper ≡ enclosed A B
   hull-is = ap₂ (λ (C D : List Point). C ++ inner D) lower-is upper-is
-      ∙ sym (enclosed-is (pointAt (s .args .lows .now) 0) (pointAt (s .args .highs .now) (1008 - m)) A B (span 1 m (s .args .lows .now))
-      (span (1008 - m + 1) 1008 (s .args .highs .now))
+      ∙ sym (enclosed-is (pointAt (s .args .lows .now) 0) (pointAt (s .args .highs .now) (columnCount - m)) A B (span 1 m (s .args .lows .now))
+      (span (columnCount - m + 1) columnCount (s .args .highs .now))
       (span-step 0 m (s .args .lows .now) (omega (arith, s .pre .0 .0)) (omega (arith, s .pre .0 .1, s .pre .0 .2)))
-      (span-step (1008 - m) 1008 (s .args .highs .now) (omega (arith, s .pre .0 .0)) (omega (arith, s .pre .0 .3))))
+      (span-step (columnCount - m) columnCount (s .args .highs .now) (omega (arith, s .pre .0 .0)) (omega (arith, s .pre .0 .3))))
 
 point-at-requires : tie.Need-point-at-requires
 point-at-requires c κs = search needs

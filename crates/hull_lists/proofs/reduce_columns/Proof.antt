@@ -14,7 +14,7 @@ use Rattle.hull.proofs.Different.{hull-length}
 use Rattle.hull_chains.specs.Spans.{span}
 use Rattle.hull_lists.specs.Enclosed.{enclosed}
 use Rattle.joined_chains.specs.Laid.{laid}
-use Rattle.columns.specs.Columns.{side}
+use Rattle.columns.specs.Columns.{side, columnCount, sideLength}
 use Rattle.hull_chains.proofs.Spanning.{points-most}
 use Rattle.columns.proofs.ColumnLaws.{unseen}
 use Rattle.columns.proofs.SideLaws.{sides-are, sides-some}
@@ -40,9 +40,9 @@ module _ (c : tie.After-put-columns) where
   abbrev m : ℕ
   m = c .put-columns .result
 
-  hull-is : enclosed (span 0 m (c .put-columns .last .1 .1 .1 .0)) (span (1008 - m) 1008 (c .put-columns .last .1 .1 .1 .1 .0)) ≡ hullOf P
+  hull-is : enclosed (span 0 m (c .put-columns .last .1 .1 .1 .0)) (span (columnCount - m) columnCount (c .put-columns .last .1 .1 .1 .1 .0)) ≡ hullOf P
   hull-is = ap₂ enclosed (c .put-columns .ensures .1 .lowest) (c .put-columns .ensures .1 .highest)
-      ∙ enclosed-only P (side 1008 low high low) (reverse (side 1008 low high high)) (sides-are (s .pre .1) (all-inside P (s .pre .0 .boxed)))
+      ∙ enclosed-only P (side columnCount low high low) (reverse (side columnCount low high high)) (sides-are (s .pre .1) (all-inside P (s .pre .0 .boxed)))
 
   some : 1 ≤ m
   some = omega
@@ -57,7 +57,7 @@ slice-aggregate-put-columns-2 c = search needs
 put-columns-requires : tie.Need-put-columns-requires
 put-columns-requires c κs =
     let s = c .before .before .before in (
-      (s .pre .1 .low-size, s .pre .1 .high-size, s .pre .2 .groups, length-replicate 2018 (pos 0), length-replicate 2018 (pos 0)),
+      (s .pre .1 .low-size, s .pre .1 .high-size, s .pre .2 .groups, length-replicate sideLength (pos 0), length-replicate sideLength (pos 0)),
       unseen (s .pre .1) (s .pre .2),
     )
 
@@ -73,8 +73,8 @@ lay-requires c κs =
       (
         some r,
         r .put-columns .ensures .0,
-        r .put-columns .kept .1 .1 .1 .0 ∙ length-replicate 2018 (pos 0),
-        r .put-columns .kept .1 .1 .1 .1 .0 ∙ length-replicate 2018 (pos 0),
+        r .put-columns .kept .1 .1 .1 .0 ∙ length-replicate sideLength (pos 0),
+        r .put-columns .kept .1 .1 .1 .1 .0 ∙ length-replicate sideLength (pos 0),
       ),
       omega (arith, ap length (hull-is r), hull-length (P r), points-most (s r .args .list .now)),
     )

@@ -11,6 +11,7 @@ use mir.Val.{SFits, toZ, ofZ}
 use mir.Facts.{toZ-ofZ}
 use Rattle.geometry.specs.EmBox.{em}
 use Rattle.validity.proofs.ValidLaws.{limits}
+use Rattle.geometry.specs.Plane.{numbers}
 use Rattle.preview.proofs.Exact.{in-float}
 use Rattle.preview.proofs.floats_of.Statement.{statement}
 use Rattle.preview.proofs.floats_of.Tie as tie
@@ -21,19 +22,19 @@ signed {z} fits h = subst (λ (y : ℤ). T (inFloat binary64 y)) (sym (toZ-ofZ f
 
 int-to-float-scale : tie.Need-int-to-float-scale
 int-to-float-scale c =
-    let s = c .before .before .before in in-float (pos (s .args .d .e)) (omega (arith, limits em (s .args .d) (s .pre .0) .e-small))
+    let s = c .before .before .before in in-float (pos (s .args .d .e)) (omega (arith, limits em (numbers (s .args .d)) (s .pre .0) .e-small))
 
 int-to-float-t7 : tie.Need-int-to-float-t7
 int-to-float-t7 c =
     let told = c .before .before .before in
     let s = told .before in
-    signed {z = s .args .d .x} (record { sfits = told .struct-told .given .0 .1 }) (omega (arith, limits em (s .args .d) (s .pre .0) .x-small))
+    signed {z = s .args .d .x} (record { sfits = told .struct-told .given .0 .1 }) (omega (arith, limits em (numbers (s .args .d)) (s .pre .0) .x-small))
 
 int-to-float-t9 : tie.Need-int-to-float-t9
 int-to-float-t9 c =
     let told = c .before .before .before in
     let s = told .before .before in
-    signed {z = s .args .d .y} (record { sfits = told .struct-told2 .given .1 .0 .1 }) (omega (arith, limits em (s .args .d) (s .pre .0) .y-small))
+    signed {z = s .args .d .y} (record { sfits = told .struct-told2 .given .1 .0 .1 }) (omega (arith, limits em (numbers (s .args .d)) (s .pre .0) .y-small))
 
 int-to-float-t11 : tie.Need-int-to-float-t11
 int-to-float-t11 c =

@@ -5,6 +5,7 @@ use mathlib.Core.Bool.{true, false}
 use Prim.Native.Nat.{ℕ, _-_, _≤_, _<_}
 use native.Mathlib.Omega.{arith}
 use Rattle.geometry.specs.EmBox.{em}
+use Rattle.geometry.specs.Plane.{numbers}
 use Rattle.radius.specs.Radius.{clears, maxRadius}
 use Rattle.validity.proofs.ValidLaws.{limits}
 use Rattle.radius.proofs.RadiusLaws.{clears-less, clears-limit, radius-only}
@@ -12,13 +13,13 @@ use Rattle.radius.proofs.least_clear.Statement.{statement}
 use Rattle.radius.proofs.least_clear.Tie as tie
 
 abbrev Inv-loop : tie.InvT-loop
-Inv-loop d low₀ high₀ low high = (low ≤ high) × (high ≤ maxRadius) × (clears d high ≡ true) × ((k : ℕ) → k < low → clears d k ≡ false)
+Inv-loop d low₀ high₀ low high = (low ≤ high) × (high ≤ maxRadius) × (clears (numbers d) high ≡ true) × ((k : ℕ) → k < low → clears (numbers d) k ≡ false)
 
 abbrev μ-loop : tie.MeasureT-loop
 μ-loop d low₀ high₀ low high = high - low
 
 loop-holds : tie.Need-loop-holds Inv-loop μ-loop
-loop-holds c = (omega arith, omega arith, clears-limit (c .args .d) (limits em (c .args .d) (c .pre)), λ k l. absurd (none k l))
+loop-holds c = (omega arith, omega arith, clears-limit (numbers (c .args .d)) (limits em (numbers (c .args .d)) (c .pre)), λ k l. absurd (none k l))
   where
     none : (k : ℕ) → k < 0 → ⊥
     none k l = omega arith
@@ -45,7 +46,7 @@ loop-less-2 c = omega arith
 loop-again-2 : tie.Need-loop-again-2 Inv-loop μ-loop
 loop-again-2 c =
     let at = c .before .before .before .loop .inv in
-    let d = c .before .before .before .before .args .d in (
+    let d = numbers (c .before .before .before .before .args .d) in (
       omega arith,
       omega arith,
       at .2,
@@ -56,7 +57,7 @@ returns : tie.Need-returns Inv-loop μ-loop
 returns c =
     let at = c .before .loop .inv in
     let s = c .before .before in
-    radius-only (s .args .d) (limits em (s .args .d) (s .pre) .e-some) (record { passes = at .2; first = λ k l. at .3 k (omega arith) })
+    radius-only (numbers (s .args .d)) (limits em (numbers (s .args .d)) (s .pre) .e-some) (record { passes = at .2; first = λ k l. at .3 k (omega arith) })
 
 pub least-clear-spec : {M : Type 1} → statement M
 least-clear-spec =

@@ -3,7 +3,7 @@ use mathlib.Core.Path.{_≡_, sym, ap, _∙_}
 use borrow.Author.Needs.{needs}
 use Rattle.answers.specs.Outcome.{given}
 use Rattle.geometry.specs.EmBox.{em}
-use Rattle.geometry.specs.Plane.{members}
+use Rattle.geometry.specs.Plane.{members, numbers}
 use Rattle.validity.proofs.ValidLaws.{valid-disk}
 use Rattle.disk_checks.specs.Checks.{checkOf, outcome}
 use Rattle.disk_checks.proofs.CheckLaws.{passed}
@@ -11,7 +11,7 @@ use Rattle.radius.proofs.whole_radius.Statement.{statement}
 use Rattle.radius.proofs.whole_radius.Tie as tie
 
 -- the checks are passed
-fine : (c : tie.After-enum-told) → let s = c .before .before .before in checkOf (s .args .d) (members (s .args .t)) ≡ given tt
+fine : (c : tie.After-enum-told) → let s = c .before .before .before in checkOf (numbers (s .args .d)) (members (s .args .t)) ≡ given tt
 fine c = sym (c .before .before .check .ensures) ∙ ap outcome (c .enum-told .given .1)
 
 check-requires : tie.Need-check-requires
@@ -23,7 +23,7 @@ enum-told c = search needs
 least-clear-requires : tie.Need-least-clear-requires
 least-clear-requires c κs =
     let s = c .before .before .before in
-    valid-disk em (s .args .d) (members (s .args .t)) (passed (s .args .d) (members (s .args .t)) (fine c) .0)
+    valid-disk em (numbers (s .args .d)) (members (s .args .t)) (passed (numbers (s .args .d)) (members (s .args .t)) (fine c) .0)
 
 enum-known-r : tie.Need-enum-known-r
 enum-known-r c = search needs

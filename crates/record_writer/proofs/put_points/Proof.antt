@@ -4,7 +4,7 @@ use mathlib.Core.Path.{_≡_, sym, ap, _∙_}
 use Prim.Native.Nat.{ℕ}
 use borrow.Author.Needs.{needs}
 use lib.Seq.{sets}
-use Rattle.record_writer.specs.Layout.{firstAt}
+use Rattle.record_writer.specs.Layout.{firstAt, sWidth}
 use Rattle.geometry.specs.declared.SupportSet.{SupportSet}
 use Rattle.geometry.specs.Plane.{members}
 use Rattle.record_writer.specs.Bytes.{pointsBytes, madeThree, countBytes}
@@ -12,7 +12,7 @@ use Rattle.record_writer.proofs.put_points.Statement.{statement}
 use Rattle.record_writer.proofs.put_points.Tie as tie
 
 abbrev stored : List ℕ → SupportSet → List ℕ
-stored l t = sets l firstAt (pointsBytes (madeThree (members t)) ++ countBytes (members t))
+stored l t = sets l (firstAt sWidth) (pointsBytes (madeThree (members t)) ++ countBytes (members t))
 
 -- a support set known by its case
 known : (l : List ℕ) {t u : SupportSet} → t ≡ u → stored l u ≡ stored l t

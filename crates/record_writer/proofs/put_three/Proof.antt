@@ -5,7 +5,7 @@ use Prim.Native.Nat.{ℕ}
 use borrow.Author.Needs.{needs}
 use lib.Seq.{sets}
 use Rattle.big_endian.specs.Fields.{put}
-use Rattle.record_writer.specs.Layout.{secondAt, thirdAt, countWidth, countAt}
+use Rattle.record_writer.specs.Layout.{secondAt, thirdAt, countWidth, countAt, sWidth}
 use Rattle.record_writer.specs.Bytes.{pointBytes}
 use Rattle.record_writer.proofs.ByteLaws.{three-stored}
 use Rattle.record_writer.proofs.put_three.Statement.{statement}
@@ -34,10 +34,10 @@ returns c =
     let first = second .before .before .before .before in
     let s = first .before .before .before in
     count .put-at .ensures
-    ∙ ap (put countWidth (s .args .n) countAt)
+    ∙ ap (put countWidth (s .args .n) (countAt sWidth))
     (third .put-point3 .ensures
-    ∙ ap (λ (m : List ℕ). sets m thirdAt (pointBytes (s .args .c)))
-    (second .put-point2 .ensures ∙ ap (λ (m : List ℕ). sets m secondAt (pointBytes (s .args .b))) (first .put-point .ensures)))
+    ∙ ap (λ (m : List ℕ). sets m (thirdAt sWidth) (pointBytes (s .args .c)))
+    (second .put-point2 .ensures ∙ ap (λ (m : List ℕ). sets m (secondAt sWidth) (pointBytes (s .args .b))) (first .put-point .ensures)))
     ∙ three-stored (s .args .buf .now) (s .args .a) (s .args .b) (s .args .c) (s .args .n)
 
 pub put-three-spec : {M : Type 1} → statement M

@@ -8,9 +8,9 @@ use lib.ListN.{length}
 use lib.Seq.{sets}
 use Rattle.answers.specs.Outcome.{given}
 use Rattle.validity.proofs.ValidLaws.{members-counted}
-use Rattle.geometry.specs.Plane.{members}
+use Rattle.geometry.specs.Plane.{members, numbers}
 use Rattle.disk_checks.specs.Checks as checks
-use Rattle.record_writer.specs.Layout.{recordLength, firstAt}
+use Rattle.record_writer.specs.Layout.{recordLength, firstAt, sWidth}
 use Rattle.record_writer.specs.Bytes.{pointsBytes, madeThree, countBytes}
 use Rattle.record_writer.proofs.ByteLaws.{record-stored}
 use Rattle.record_writer.proofs.write_record.Statement.{statement}
@@ -45,14 +45,14 @@ returns-2 c =
     let checked = told .before .before in
     let s = checked .before .before .before in
     let l = s .args .buf .now in
-    let d = s .args .d in
+    let d = numbers (s .args .d) in
     let t = s .args .t in
     let long = le-ltb (length l) recordLength (checked .before .if1 .left) in
     let ok : checks.checkOf d (members t) ≡ given tt = sym (checked .check .ensures) ∙ ap checks.outcome (told .enum-told .given .1) in (
       rw (long, ok),
       rw (long, ok)
           (points .put-points .ensures
-          ∙ ap (λ (m : List ℕ). sets m firstAt (pointsBytes (madeThree (members t)) ++ countBytes (members t))) (disk .put-disk .ensures)
+          ∙ ap (λ (m : List ℕ). sets m (firstAt sWidth) (pointsBytes (madeThree (members t)) ++ countBytes (members t))) (disk .put-disk .ensures)
           ∙ record-stored l d (members t) (members-counted t) (checked .before .if1 .left)),
     )
 

@@ -27,6 +27,7 @@ use Rattle.point_lists.proofs.Rising.{insert-new, insert-length}
 use Rattle.support_tests.proofs.Numbers.{limits-small}
 use Rattle.support_span.specs.Span.{Spanned, Spans}
 use Rattle.support_span.proofs.Spans.{spanned-more}
+use Rattle.geometry.specs.Plane.{numbers}
 use Rattle.support.proofs.SearchFinds.{within-limits}
 use Rattle.support.proofs.Kept.{Kept, kept-none, kept-put, kept-spanned, kept-off, kept-finds}
 use Rattle.support.proofs.collect.Statement.{statement}
@@ -39,8 +40,8 @@ Inv-loop list disk out₀ m₀ span₀ n i₀ out m span i =
 abbrev μ-loop : tie.MeasureT-loop
 μ-loop list disk out₀ m₀ span₀ n i₀ out m span i = length list / 2 - i
 
-in-limits : (s : tie.Start Inv-loop μ-loop) → WithinLimits em (s .args .disk)
-in-limits s = within-limits (points (s .args .list .now)) (points-some (s .args .list .now) (s .pre .0 .some)) (s .args .disk) (s .pre .0 .smallest)
+in-limits : (s : tie.Start Inv-loop μ-loop) → WithinLimits em (numbers (s .args .disk))
+in-limits s = within-limits (points (s .args .list .now)) (points-some (s .args .list .now) (s .pre .0 .some)) (numbers (s .args .disk)) (s .pre .0 .smallest)
     (s .pre .0 .boxed)
 
 -- the point that was read, behind those that were looked at
@@ -64,12 +65,12 @@ module _ (c : tie.After-point-at Inv-loop μ-loop) where
   read = firstPoints-next (at .loop .i) (s .args .list .now) (omega (arith, c .before .loop-test .taken))
       ∙ ap (λ (q : Point). P ++ (q ∷ [])) (sym (c .point-at .ensures))
 
-  now-kept : (R : List Point) → Kept (s .args .disk) (P ++ (p ∷ [])) R → Kept (s .args .disk) (firstPoints (at .loop .i + 1) (s .args .list .now)) R
-  now-kept R k = subst (λ (L : List Point). Kept (s .args .disk) L R) (sym read) k
+  now-kept : (R : List Point) → Kept (numbers (s .args .disk)) (P ++ (p ∷ [])) R → Kept (numbers (s .args .disk)) (firstPoints (at .loop .i + 1) (s .args .list .now)) R
+  now-kept R k = subst (λ (L : List Point). Kept (numbers (s .args .disk)) L R) (sym read) k
 
 loop-holds : tie.Need-loop-holds Inv-loop μ-loop
 unfolding points
-loop-holds c = (omega arith, omega arith, refl, kept-none (c .args .disk), λ z h k. <-≤-clash h (≤-of-< k))
+loop-holds c = (omega arith, omega arith, refl, kept-none (numbers (c .args .disk)), λ z h k. <-≤-clash h (≤-of-< k))
 
 point-at-requires : tie.Need-point-at-requires Inv-loop μ-loop
 point-at-requires c κs = omega (arith, c .loop-test .taken)
@@ -112,16 +113,16 @@ module _ (c : tie.After-insert-point Inv-loop μ-loop) where
       (omega (arith, at r .loop .inv .0, at r .loop .inv .1, at r .loop .inv .2, s r .pre .1)) in
       omega (arith, c .insert-point .ensures .0, insert-length (p r) (Q r), size)
 
-  put-in : Kept (s r .args .disk) (firstPoints (at r .loop .i + 1) (s r .args .list .now)) R
+  put-in : Kept (numbers (s r .args .disk)) (firstPoints (at r .loop .i + 1) (s r .args .list .now)) R
   put-in =
       let test = c .before .before in
-      now-kept r R (subst (Kept (s r .args .disk) (P r ++ (p r ∷ []))) (sym with-it)
-      (kept-put (s r .args .disk) (P r) (Q r) (p r) (at r .loop .inv .3) (sym (test .before .on-boundary .ensures) ∙ test .if2 .taken)))
+      now-kept r R (subst (Kept (numbers (s r .args .disk)) (P r ++ (p r ∷ []))) (sym with-it)
+      (kept-put (numbers (s r .args .disk)) (P r) (Q r) (p r) (at r .loop .inv .3) (sym (test .before .on-boundary .ensures) ∙ test .if2 .taken)))
 
   -- what was spanned stays so
-  still-spanned : Spans (s r .args .disk) R (at r .loop .span)
-  still-spanned z h k = subst (λ (L : List Point). Spanned (s r .args .disk) L z) (sym with-it)
-      (spanned-more (s r .args .disk) (Q r) (p r) z (at r .loop .inv .4 z h k))
+  still-spanned : Spans (numbers (s r .args .disk)) R (at r .loop .span)
+  still-spanned z h k = subst (λ (L : List Point). Spanned (numbers (s r .args .disk)) L z) (sym with-it)
+      (spanned-more (numbers (s r .args .disk)) (Q r) (p r) z (at r .loop .inv .4 z h k))
 
 span-with-requires : tie.Need-span-with-requires Inv-loop μ-loop
 span-with-requires c κs =
@@ -129,7 +130,7 @@ span-with-requires c κs =
     let e = r u in (
       (
         omega (arith, one-more u, u .insert-point .kept .0, at e .loop .inv .1, at e .loop .inv .2, s e .pre .1, e .before .loop-test .taken),
-        limits-small (s e .args .disk) (in-limits (s e)),
+        limits-small (numbers (s e .args .disk)) (in-limits (s e)),
       ),
       (subst (In (p e)) (sym (with-it u)) (insert-new (p e) (Q e)), still-spanned u),
     )
@@ -163,14 +164,14 @@ loop-again-2 c =
     )
 
 -- the point is spanned, as the test said
-spanned : (c : tie.After-is-spanned Inv-loop μ-loop) → c .is-spanned .result ≡ true → let e = c .before .before in Spanned (s e .args .disk) (Q e) (p e .x)
+spanned : (c : tie.After-is-spanned Inv-loop μ-loop) → c .is-spanned .result ≡ true → let e = c .before .before in Spanned (numbers (s e .args .disk)) (Q e) (p e .x)
 spanned c t =
     let e = c .before .before in
     let lo = at e .loop .span .lo in
     let hi = at e .loop .span .hi in
     let z = toZ w16 (ofZ w16 (p e .x)) in
     let within : T (ltZ lo z && ltZ z hi) = subst T (sym (sym (c .is-spanned .ensures) ∙ t)) tt in
-    subst (Spanned (s e .args .disk) (Q e)) (toZ-ofZ (record { sfits = c .before .struct-told .given .0 .1 }))
+    subst (Spanned (numbers (s e .args .disk)) (Q e)) (toZ-ofZ (record { sfits = c .before .struct-told .given .0 .1 }))
     (at e .loop .inv .4 z (record { lt = and-left (ltZ lo z) (ltZ z hi) within }) (record { lt = and-right (ltZ lo z) (ltZ z hi) within }))
 
 loop-less-3 : tie.Need-loop-less-3 Inv-loop μ-loop
@@ -198,9 +199,9 @@ returns c =
     let whole : firstPoints (l .i) (st .args .list .now) ≡ points (st .args .list .now) = firstPoints-whole (l .i) (st .args .list .now)
     (omega (arith, l .inv .0)) (omega (arith, c .loop-test .left)) in (
       omega (arith, l .inv .0, l .inv .1, l .inv .2, st .pre .1),
-      kept-finds (points (st .args .list .now)) (points-some (st .args .list .now) (st .pre .0 .some)) (st .args .disk) (st .pre .0 .smallest)
+      kept-finds (points (st .args .list .now)) (points-some (st .args .list .now) (st .pre .0 .some)) (numbers (st .args .disk)) (st .pre .0 .smallest)
           (firstPoints (l .m) (l .out))
-          (subst (λ (P : List Point). Kept (st .args .disk) P (firstPoints (l .m) (l .out))) whole (l .inv .3)),
+          (subst (λ (P : List Point). Kept (numbers (st .args .disk)) P (firstPoints (l .m) (l .out))) whole (l .inv .3)),
     )
 
 pub collect-spec : {M : Type 1} → statement M

@@ -8,6 +8,7 @@ use Rattle.geometry.specs.declared.Point.{Point}
 use Rattle.geometry.specs.Points.{points}
 use Rattle.geometry.proofs.PointRows.{points-some}
 use Rattle.support_tests.proofs.Numbers.{limits-small}
+use Rattle.geometry.specs.Plane.{numbers}
 use Rattle.support.proofs.SearchFinds.{support-some, within-limits}
 use Rattle.support.proofs.search_in.Statement.{statement}
 use Rattle.support.proofs.search_in.Tie as tie
@@ -19,7 +20,7 @@ search-requires : tie.Need-search-requires
 search-requires c κs =
     let m = c .before .before in
     let s = m .before .before in
-    let d = s .args .disk in
+    let d = numbers (s .args .disk) in
     let P = points (s .args .list .now) in
     let some = points-some (s .args .list .now) (s .pre .0 .some) in (
       m .collect .ensures .0,

@@ -12,6 +12,7 @@ use Rattle.geometry.specs.Points.{pointAt, firstPoints}
 use Rattle.geometry.proofs.PointRows.{firstPoints-from, firstPoints-end}
 use Rattle.disks.specs.Support.{choose}
 use Rattle.support_tests.specs.Tests.{fits}
+use Rattle.geometry.specs.Plane.{numbers}
 use Rattle.support_search.specs.Search.{firstFit}
 use Rattle.support_search.proofs.Left.{fit-some, acuteSet, three-acute, ones-hit, ones-miss, pairsFrom, pairsWith, triplesFrom, triplesWith}
 use Rattle.support_search.proofs.Left.{triplesOf, pairs-at, pair-hit, pair-miss, pairs-with-end, pairs-end, triples-at, triples-with-at, triple-hit}
@@ -20,13 +21,13 @@ use Rattle.support_search.proofs.search.Statement.{statement}
 use Rattle.support_search.proofs.search.Tie as tie
 
 abbrev Inv-loop2 : tie.InvT-loop2
-Inv-loop2 list n disk found₀ i p j₀ found j = (j ≤ n) × (pairsWith (fits disk) (firstPoints n list) p i j ≡ firstFit disk (firstPoints n list))
+Inv-loop2 list n disk found₀ i p j₀ found j = (j ≤ n) × (pairsWith (fits (numbers disk)) (firstPoints n list) p i j ≡ firstFit (numbers disk) (firstPoints n list))
 
 abbrev μ-loop2 : tie.MeasureT-loop2
 μ-loop2 list n disk found₀ i p j₀ found j = n - j
 
 abbrev Inv-loop : tie.InvT-loop
-Inv-loop list n disk found₀ i₀ found i = (i ≤ n) × (pairsFrom (fits disk) (firstPoints n list) i ≡ firstFit disk (firstPoints n list))
+Inv-loop list n disk found₀ i₀ found i = (i ≤ n) × (pairsFrom (fits (numbers disk)) (firstPoints n list) i ≡ firstFit (numbers disk) (firstPoints n list))
 
 abbrev μ-loop : tie.MeasureT-loop
 μ-loop list n disk found₀ i₀ found i = n - i
@@ -50,7 +51,7 @@ abbrev μ-loop3 : tie.MeasureT-loop3
 μ-loop3 list n found₀ i₀ found i = n - i
 
 abbrev Inv-search : tie.InvT-search
-Inv-search list n disk found₀ found = pairsFrom (fits disk) (firstPoints n list) 0 ≡ firstFit disk (firstPoints n list)
+Inv-search list n disk found₀ found = pairsFrom (fits (numbers disk)) (firstPoints n list) 0 ≡ firstFit (numbers disk) (firstPoints n list)
 
 abbrev μ-search : tie.MeasureT-search
 μ-search list n disk found₀ found = 0
@@ -66,10 +67,10 @@ abbrev row : AtSearch → List Point
 row c = firstPoints (start c .args .n) (start c .args .list .now)
 
 abbrev passes : AtSearch → List Point → Bool
-passes c = fits (start c .args .disk)
+passes c = fits (numbers (start c .args .disk))
 
 abbrev answer : AtSearch → List Point
-answer c = firstFit (start c .args .disk) (row c)
+answer c = firstFit (numbers (start c .args .disk)) (row c)
 
 -- a point that was read is the first of those from there on
 next : (s : AtSearch) (i : ℕ) {p : Point} → p ≡ pointAt (start s .args .list .now) i → i < start s .args .n → drop i (row s) ≡ p ∷ drop (i + 1) (row s)
@@ -112,7 +113,7 @@ after-pairs : (c : tie.After-loop Inv-loop2 μ-loop2 Inv-loop μ-loop Inv-loop5 
 after-pairs c =
     let at = c .before in
     let u = at .before in
-    sym (three-acute (start u .args .disk) (row u)) ∙ sym (pairs-end (passes u) (row u) (at .loop .i) (none u (at .loop .i) (c .loop-test .left)))
+    sym (three-acute (numbers (start u .args .disk)) (row u)) ∙ sym (pairs-end (passes u) (row u) (at .loop .i) (none u (at .loop .i) (c .loop-test .left)))
     ∙ at .loop .inv .1
 
 -- a triple of points that were read
@@ -154,7 +155,7 @@ module _ (c : tie.After-point-at6 Inv-loop2 μ-loop2 Inv-loop μ-loop Inv-loop5 
   triple-fails h = sym (triple-miss acuteSet (row u) a ia b jb (c .point-at6 .result) k third h) ∙ c .before .before .loop5 .inv .1
 
 point-at-requires : tie.Need-point-at-requires Inv-loop2 μ-loop2 Inv-loop μ-loop Inv-loop5 μ-loop5 Inv-loop4 μ-loop4 Inv-loop3 μ-loop3 Inv-search μ-search
-point-at-requires c κs = omega (arith, fit-some (c .args .disk) (c .args .n) (c .args .list .now) (c .pre .2), c .pre .0)
+point-at-requires c κs = omega (arith, fit-some (numbers (c .args .disk)) (c .args .n) (c .args .list .now) (c .pre .2), c .pre .0)
 
 returns : tie.Need-returns Inv-loop2 μ-loop2 Inv-loop μ-loop Inv-loop5 μ-loop5 Inv-loop4 μ-loop4 Inv-loop3 μ-loop3 Inv-search μ-search
 unfolding firstFit fits
@@ -162,18 +163,18 @@ returns c =
     let s = c .before .before .before in
     let Q : List Point = firstPoints (s .args .n) (s .args .list .now) in
     let p : Point = c .before .before .point-at .result in
-    let some : 0 < s .args .n = fit-some (s .args .disk) (s .args .n) (s .args .list .now) (s .pre .2) in
+    let some : 0 < s .args .n = fit-some (numbers (s .args .disk)) (s .args .n) (s .args .list .now) (s .pre .2) in
     let first : Q ≡ p ∷ drop 1 Q =
     firstPoints-from (s .args .n) 0 (s .args .list .now) (s .pre .0) some
     ∙ ap {B = List Point} (λ q. q ∷ drop 1 Q) (sym (c .before .before .point-at .ensures)) in
-    sym (ones-hit (fits (s .args .disk)) Q p (drop 1 Q) first (eq-eqb (s .args .disk .s) 0 (c .if1 .taken)))
+    sym (ones-hit (fits (numbers (s .args .disk))) Q p (drop 1 Q) first (eq-eqb (s .args .disk .s) 0 (c .if1 .taken)))
 
 search-holds : tie.Need-search-holds Inv-loop2 μ-loop2 Inv-loop μ-loop Inv-loop5 μ-loop5 Inv-loop4 μ-loop4 Inv-loop3 μ-loop3 Inv-search μ-search
 unfolding firstFit fits
 search-holds c =
     let s = c .before .before .before in
     let Q : List Point = firstPoints (s .args .n) (s .args .list .now) in
-    sym (ones-miss (fits (s .args .disk)) Q Q (choose 2 Q ++ choose 3 Q) (λ p. ne-eqb (s .args .disk .s) 0 (c .if1 .left)))
+    sym (ones-miss (fits (numbers (s .args .disk))) Q Q (choose 2 Q ++ choose 3 Q) (λ p. ne-eqb (s .args .disk .s) 0 (c .if1 .left)))
 
 loop-holds : tie.Need-loop-holds Inv-loop2 μ-loop2 Inv-loop μ-loop Inv-loop5 μ-loop5 Inv-loop4 μ-loop4 Inv-loop3 μ-loop3 Inv-search μ-search
 loop-holds c = (search needs, c .search .inv)

@@ -11,6 +11,7 @@ use Rattle.geometry.specs.Points.{firstPoints}
 use Rattle.geometry.proofs.PointLists.{pointAt-firstPoints}
 use Rattle.point_lists.specs.Sets.{In}
 use Rattle.support_tests.specs.Tests.{opposite}
+use Rattle.geometry.specs.Plane.{numbers}
 use Rattle.support_span.proofs.Spans.{across-spans, opposite-swap}
 use Rattle.support_span.proofs.span_with.Statement.{statement}
 use Rattle.support_span.proofs.span_with.Tie as tie
@@ -49,7 +50,7 @@ module _ (c : tie.After-struct-told2 Inv-loop μ-loop) where
       subst (λ (r : Point). In r (firstPoints (s .args .n) (s .args .list .now))) (sym (read .point-at .ensures))
       (pointAt-firstPoints (read .before .before .loop .k) (s .args .n) (s .args .list .now) (read .before .loop-test .taken) (s .pre .0 .0))
 
-  across : opposite (s .args .disk) p q ≡ true
+  across : opposite (numbers (s .args .disk)) p q ≡ true
   across = sym (found .before .is-opposite .ensures) ∙ found .if1 .taken
 
 loop-holds : tie.Need-loop-holds Inv-loop μ-loop
@@ -65,13 +66,13 @@ returns : tie.Need-returns Inv-loop μ-loop
 returns c =
     let u = c .before .before .before in
     let Q = firstPoints (s u .args .n) (s u .args .list .now) in
-    across-spans (s u .args .disk) Q (p u) (q u) (s u .pre .1 .0) (q-in u) (across u) (toZ-ofZ (p-fits u)) (toZ-ofZ (q-fits u))
+    across-spans (numbers (s u .args .disk)) Q (p u) (q u) (s u .pre .1 .0) (q-in u) (across u) (toZ-ofZ (p-fits u)) (toZ-ofZ (q-fits u))
 
 returns-2 : tie.Need-returns-2 Inv-loop μ-loop
 returns-2 c =
     let u = c .before .before .before in
     let Q = firstPoints (s u .args .n) (s u .args .list .now) in
-    across-spans (s u .args .disk) Q (q u) (p u) (q-in u) (s u .pre .1 .0) (opposite-swap (s u .args .disk) (q u) (p u) ∙ across u)
+    across-spans (numbers (s u .args .disk)) Q (q u) (p u) (q-in u) (s u .pre .1 .0) (opposite-swap (numbers (s u .args .disk)) (q u) (p u) ∙ across u)
     (toZ-ofZ (q-fits u)) (toZ-ofZ (p-fits u))
 
 add-k : tie.Need-add-k Inv-loop μ-loop

@@ -11,7 +11,7 @@ use mir.Facts.{toZ-ofZ}
 use Rattle.integers.specs.Order.{between}
 use Rattle.integers.proofs.Tests.{stop, pass}
 use Rattle.integers.proofs.Bounds.{Value, v-nat, v-mul, v-abs, v-back, fits, back}
-use Rattle.geometry.specs.declared.Disk.{Disk}
+use Rattle.geometry.specs.Plane.{Disk}
 use Rattle.geometry.specs.declared.Limits.{Limits}
 use Rattle.geometry.specs.EmBox.{largest}
 use Rattle.geometry.proofs.EmBox.{left-size, right-size, foot-size, top-size}

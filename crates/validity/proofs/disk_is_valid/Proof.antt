@@ -3,16 +3,17 @@ use mathlib.Core.Path.{_≡_, sym, _∙_}
 use mathlib.Core.Bool.{true}
 use borrow.Author.Needs.{needs}
 use Rattle.integers.proofs.Tests.{stop, pass}
+use Rattle.geometry.specs.Plane.{numbers}
 use Rattle.validity.specs.Valid.{scaleInLimit, isLowest, validDiskIn}
 use Rattle.validity.proofs.ValidLaws.{scale-limits}
 use Rattle.validity.proofs.disk_is_valid.Statement.{statement}
 use Rattle.validity.proofs.disk_is_valid.Tie as tie
 
 -- what holds where a test was passed
-scale : (c : tie.Then1) → scaleInLimit (c .before .before .args .l) (c .before .before .args .d) ≡ true
+scale : (c : tie.Then1) → scaleInLimit (c .before .before .args .l) (numbers (c .before .before .args .d)) ≡ true
 scale c = sym (c .before .scale-in-limit .ensures) ∙ c .if1 .taken
 
-lowest : (c : tie.Then2) → isLowest (c .before .before .before .before .args .d) ≡ true
+lowest : (c : tie.Then2) → isLowest (numbers (c .before .before .before .before .args .d)) ≡ true
 lowest c = sym (c .before .is-lowest .ensures) ∙ c .if2 .taken
 
 scale-in-limit-requires : tie.Need-scale-in-limit-requires
@@ -24,12 +25,12 @@ is-lowest-requires c κs = search needs
 centre-in-box-requires : tie.Need-centre-in-box-requires
 centre-in-box-requires c κs =
     let then1 = c .before .before in
-    (then1 .before .before .pre, scale-limits (then1 .before .before .args .l) (then1 .before .before .args .d) (scale then1) .1)
+    (then1 .before .before .pre, scale-limits (then1 .before .before .args .l) (numbers (then1 .before .before .args .d)) (scale then1) .1)
 
 square-in-limit-requires : tie.Need-square-in-limit-requires
 square-in-limit-requires c κs =
     let then1 = c .before .before .before .before in
-    (then1 .before .before .pre, scale-limits (then1 .before .before .args .l) (then1 .before .before .args .d) (scale then1) .1)
+    (then1 .before .before .pre, scale-limits (then1 .before .before .args .l) (numbers (then1 .before .before .args .d)) (scale then1) .1)
 
 returns : tie.Need-returns
 unfolding validDiskIn

@@ -1,0 +1,56 @@
+// The power of a point in a disk. The points of the boundary all have the same, and no other point has it: so where one of them is known, the others
+// are found in 64 bits, without their distance from the centre.
+use geometry::Disk;
+use geometry::Point;
+ghost use mathlib.Core.Path.{_≡_};
+ghost use Prim.Native.Nat.{_≤_};
+ghost use Rattle.geometry.specs.Plane.{numbers};
+ghost use Rattle.support_tests.specs.Tests.{onBoundaryTest, SmallPair, SmallDisk};
+ghost use Rattle.boundary_powers.specs.Power.{powerAlong, powerOf, OfBoundary};
+
+// The power of the boundary's points, if it is known.
+pub struct BoundaryPower {
+    pub known: bool,
+    pub power: i64,
+}
+
+// v(v·e − 2c)
+fn power_along(v: i16, e: u64, c: i64) -> i64
+    requires { ⌜ SmallPair e c ⌝ }
+    ensures { λ r. ⌜ r ≡ powerAlong v e c ⌝ }
+{
+    let w = geometry::wide(v);
+    w * (w * (e as i64) - 2 * c)
+}
+
+// The power of p, times E, but for a number that is the same for every point.
+fn power(disk: Disk, p: Point) -> i64
+    requires { ⌜ SmallDisk (numbers disk) ⌝ }
+    ensures { λ r. ⌜ r ≡ powerOf (numbers disk) p ⌝ }
+{
+    let a = power_along(p.x, disk.e, disk.x);
+    let b = power_along(p.y, disk.e, disk.y);
+    a + b
+}
+
+// The power of the boundary's points, where q is one of them.
+pub fn shared_power(disk: Disk, q: Point) -> BoundaryPower
+    requires { ⌜ SmallDisk (numbers disk) ⌝ }
+    ensures { λ r. ⌜ OfBoundary (numbers disk) r ⌝ }
+{
+    let known = support_tests::on_boundary(disk, q);
+    let power = power(disk, q);
+    BoundaryPower { known, power }
+}
+
+// Whether p is on the disk's boundary (01: on the rim).
+pub fn on_boundary(disk: Disk, shared: BoundaryPower, p: Point) -> bool
+    requires { ⌜ SmallDisk (numbers disk) × (1 ≤ disk .e) × OfBoundary (numbers disk) shared ⌝ }
+    ensures { λ r. ⌜ r ≡ onBoundaryTest (numbers disk) p ⌝ }
+{
+    if shared.known {
+        let k = shared.power;
+        return power(disk, p) == k;
+    }
+    support_tests::on_boundary(disk, p)
+}
