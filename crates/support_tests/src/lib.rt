@@ -22,8 +22,7 @@ pub fn on_boundary(disk: Disk, p: Point) -> bool
 {
     let a = offset(p.x, disk.e, disk.x);
     let b = offset(p.y, disk.e, disk.y);
-    let s = disk.s;
-    wide_numbers::is_same(wide_numbers::sum_of_squares(a, b), s)
+    wide_numbers::is_same(wide_numbers::sum_of_squares(a, b), disk.s)
 }
 
 // (a + b)e = 2c

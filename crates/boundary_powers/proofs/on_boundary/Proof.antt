@@ -4,6 +4,7 @@ use borrow.Author.Needs.{needs}
 use mir.Syntax.{w64}
 use Rattle.geometry.specs.Plane.{numbers}
 use Rattle.integers.specs.Order.{eqZ}
+use Rattle.integers.proofs.Bounds.{eq-bits}
 use Rattle.boundary_powers.proofs.PowerLaws.{same-power}
 use Rattle.boundary_powers.proofs.on_boundary.Statement.{statement}
 use Rattle.boundary_powers.proofs.on_boundary.Tie as tie
@@ -16,7 +17,7 @@ returns c =
     let told = c .before in
     let s = told .before .before in
     let b = s .pre .2 in
-    eq-test w64 (v-fits {w = w64} (record { sfits = c .power .ok })) (v-fits {w = w64} (record { sfits = told .struct-told .given .1 .0 .1 })) tt
+    eq-bits w64 (c .power .result) (s .args .shared .power) (record { sfits = c .power .ok }) (record { sfits = told .struct-told .given .1 .0 .1 })
     ∙ ap₂ eqZ (c .power .ensures) (b .power-is)
     ∙ same-power (numbers (s .args .disk)) (b .point) (s .args .p) (s .pre .1) (b .on (told .before .if1 .taken))
 

@@ -16,11 +16,10 @@ use mir.Facts.{toZ-ofZ}
 use Rattle.integers.proofs.Tests.{and-left, and-right}
 use Rattle.integers.proofs.Order.{<-≤-clash, ≤-of-<}
 use Rattle.geometry.specs.declared.Point.{Point}
-use Rattle.geometry.specs.Points.{points, pointAt, firstPoints}
-use Rattle.geometry.specs.EmBox.{em, inEmBox, WithinLimits}
-use Rattle.geometry.proofs.EmBox.{box-members}
+use Rattle.geometry.specs.Points.{points, firstPoints}
+use Rattle.geometry.specs.EmBox.{em, WithinLimits}
 use Rattle.geometry.proofs.PointLists.{length-firstPoints, firstPoints-next, firstPoints-whole}
-use Rattle.geometry.proofs.PointRows.{points-some, pointAt-in}
+use Rattle.geometry.proofs.PointRows.{points-some}
 use Rattle.point_lists.specs.Sets.{In}
 use Rattle.point_lists.specs.Rising.{insert}
 use Rattle.point_lists.proofs.Rising.{insert-new, insert-length}
@@ -28,17 +27,18 @@ use Rattle.support_tests.proofs.Numbers.{limits-small}
 use Rattle.support_span.specs.Span.{Spanned, Spans}
 use Rattle.support_span.proofs.Spans.{spanned-more}
 use Rattle.geometry.specs.Plane.{numbers}
-use Rattle.support.proofs.SearchFinds.{within-limits}
+use Rattle.support.proofs.SearchFinds.{e-some, within-limits}
 use Rattle.support.proofs.Kept.{Kept, kept-none, kept-put, kept-spanned, kept-off, kept-finds}
 use Rattle.support.proofs.collect.Statement.{statement}
 use Rattle.support.proofs.collect.Tie as tie
 
 abbrev Inv-loop : tie.InvT-loop
-Inv-loop list disk out₀ m₀ span₀ n i₀ out m span i =
-    (i ≤ length list / 2) × (m ≤ i) × (length out ≡ length out₀) × Kept disk (firstPoints i list) (firstPoints m out) × Spans disk (firstPoints m out) span
+Inv-loop list disk shared out₀ m₀ span₀ n i₀ out m span i =
+    (i ≤ length list / 2) × (m ≤ i) × (length out ≡ length out₀) × Kept (numbers disk) (firstPoints i list) (firstPoints m out)
+    × Spans (numbers disk) (firstPoints m out) span
 
 abbrev μ-loop : tie.MeasureT-loop
-μ-loop list disk out₀ m₀ span₀ n i₀ out m span i = length list / 2 - i
+μ-loop list disk shared out₀ m₀ span₀ n i₀ out m span i = length list / 2 - i
 
 in-limits : (s : tie.Start Inv-loop μ-loop) → WithinLimits em (numbers (s .args .disk))
 in-limits s = within-limits (points (s .args .list .now)) (points-some (s .args .list .now) (s .pre .0 .some)) (numbers (s .args .disk)) (s .pre .0 .smallest)
@@ -83,12 +83,11 @@ is-spanned-requires c κs = search needs
 
 on-boundary-requires : tie.Need-on-boundary-requires Inv-loop μ-loop
 on-boundary-requires c κs =
-    let r = c .before .before .before in
-    let l = s r .args .list .now in
-    let i = at r .loop .i in (
-      in-limits (s r),
-      subst (λ (p : Point). T (inEmBox p)) (sym (r .point-at .ensures))
-          (box-members (points l) (s r .pre .0 .boxed) (pointAt l i) (pointAt-in i l (omega (arith, r .before .loop-test .taken)))),
+    let st = s (c .before .before .before) in
+    let d = numbers (st .args .disk) in (
+      limits-small d (in-limits st),
+      e-some (points (st .args .list .now)) (points-some (st .args .list .now) (st .pre .0 .some)) d (st .pre .0 .smallest),
+      st .pre .2,
     )
 
 insert-point-requires : tie.Need-insert-point-requires Inv-loop μ-loop
@@ -180,7 +179,7 @@ loop-less-3 c = omega (arith, c .before .before .before .before .loop-test .take
 loop-again-3 : tie.Need-loop-again-3 Inv-loop μ-loop
 loop-again-3 c =
     let e = c .before .before .before in
-    let d = s e .args .disk in
+    let d = numbers (s e .args .disk) in
     let k = at e .loop .inv .3 in
     let left-out : Kept d (P e ++ (p e ∷ [])) (Q e) =
     elim (c .if1 .came) [

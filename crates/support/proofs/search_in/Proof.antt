@@ -5,6 +5,7 @@ use mathlib.Core.List.{List}
 use Prim.Native.Nat.{_≤_}
 use lib.ListN.{length}
 use Rattle.geometry.specs.declared.Point.{Point}
+use Rattle.geometry.specs.EmBox.{em, WithinLimits}
 use Rattle.geometry.specs.Points.{points}
 use Rattle.geometry.proofs.PointRows.{points-some}
 use Rattle.support_tests.proofs.Numbers.{limits-small}
@@ -13,19 +14,31 @@ use Rattle.support.proofs.SearchFinds.{support-some, within-limits}
 use Rattle.support.proofs.search_in.Statement.{statement}
 use Rattle.support.proofs.search_in.Tie as tie
 
+-- the disk keeps the limits
+limits : (s : tie.Start) → WithinLimits em (numbers (s .args .disk))
+limits s =
+    let l = s .args .list .now in
+    within-limits (points l) (points-some l (s .pre .0 .some)) (numbers (s .args .disk)) (s .pre .0 .smallest) (s .pre .0 .boxed)
+
+point-at-requires : tie.Need-point-at-requires
+point-at-requires c κs = c .pre .0 .some
+
+shared-power-requires : tie.Need-shared-power-requires
+shared-power-requires c κs = limits-small (numbers (c .before .args .disk)) (limits (c .before))
+
 collect-requires : tie.Need-collect-requires
-collect-requires c κs = c .before .pre
+collect-requires c κs = let b = c .before in (b .before .before .pre .0, b .before .before .pre .1, b .shared-power .ensures)
 
 search-requires : tie.Need-search-requires
 search-requires c κs =
     let m = c .before .before in
-    let s = m .before .before in
+    let s = m .before .before .before .before in
     let d = numbers (s .args .disk) in
-    let P = points (s .args .list .now) in
-    let some = points-some (s .args .list .now) (s .pre .0 .some) in (
+    let P = points (s .args .list .now) in (
       m .collect .ensures .0,
-      limits-small d (within-limits P some d (s .pre .0 .smallest) (s .pre .0 .boxed)),
-      subst (λ (S : List Point). 1 ≤ length S) (sym (m .collect .ensures .1)) (support-some P some d (s .pre .0 .smallest)),
+      limits-small d (limits s),
+      subst (λ (S : List Point). 1 ≤ length S) (sym (m .collect .ensures .1))
+          (support-some P (points-some (s .args .list .now) (s .pre .0 .some)) d (s .pre .0 .smallest)),
     )
 
 same-length : tie.Need-same-length
@@ -35,4 +48,6 @@ returns : tie.Need-returns
 returns c = c .search .ensures ∙ c .before .before .before .collect .ensures .1
 
 pub search-in-spec : {M : Type 1} → statement M
-search-in-spec = tie.close (tie.spec collect-requires search-requires same-length returns)
+search-in-spec =
+    tie.close
+    (tie.spec point-at-requires shared-power-requires collect-requires search-requires same-length returns)

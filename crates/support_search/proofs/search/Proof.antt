@@ -5,7 +5,6 @@ use mathlib.Core.Bool.{Bool, true, false}
 use mathlib.Core.List.{List, [], _∷_, _++_}
 use Prim.Native.Nat.{ℕ, _+_, _-_, _≤_, _<_}
 use native.Mathlib.Omega.{arith}
-use borrow.Author.Tests.{eq-eqb, ne-eqb}
 use lib.ListN.{length, drop}
 use Rattle.geometry.specs.declared.Point.{Point}
 use Rattle.geometry.specs.Points.{pointAt, firstPoints}
@@ -157,6 +156,9 @@ module _ (c : tie.After-point-at6 Inv-loop2 μ-loop2 Inv-loop μ-loop Inv-loop5 
 point-at-requires : tie.Need-point-at-requires Inv-loop2 μ-loop2 Inv-loop μ-loop Inv-loop5 μ-loop5 Inv-loop4 μ-loop4 Inv-loop3 μ-loop3 Inv-search μ-search
 point-at-requires c κs = omega (arith, fit-some (numbers (c .args .disk)) (c .args .n) (c .args .list .now) (c .pre .2), c .pre .0)
 
+is-zero-requires : tie.Need-is-zero-requires Inv-loop2 μ-loop2 Inv-loop μ-loop Inv-loop5 μ-loop5 Inv-loop4 μ-loop4 Inv-loop3 μ-loop3 Inv-search μ-search
+is-zero-requires c κs = search needs
+
 returns : tie.Need-returns Inv-loop2 μ-loop2 Inv-loop μ-loop Inv-loop5 μ-loop5 Inv-loop4 μ-loop4 Inv-loop3 μ-loop3 Inv-search μ-search
 unfolding firstFit fits
 returns c =
@@ -167,14 +169,14 @@ returns c =
     let first : Q ≡ p ∷ drop 1 Q =
     firstPoints-from (s .args .n) 0 (s .args .list .now) (s .pre .0) some
     ∙ ap {B = List Point} (λ q. q ∷ drop 1 Q) (sym (c .before .before .point-at .ensures)) in
-    sym (ones-hit (fits (numbers (s .args .disk))) Q p (drop 1 Q) first (eq-eqb (s .args .disk .s) 0 (c .if1 .taken)))
+    sym (ones-hit (fits (numbers (s .args .disk))) Q p (drop 1 Q) first (sym (c .before .is-zero .ensures) ∙ c .if1 .taken))
 
 search-holds : tie.Need-search-holds Inv-loop2 μ-loop2 Inv-loop μ-loop Inv-loop5 μ-loop5 Inv-loop4 μ-loop4 Inv-loop3 μ-loop3 Inv-search μ-search
 unfolding firstFit fits
 search-holds c =
     let s = c .before .before .before in
     let Q : List Point = firstPoints (s .args .n) (s .args .list .now) in
-    sym (ones-miss (fits (numbers (s .args .disk))) Q Q (choose 2 Q ++ choose 3 Q) (λ p. ne-eqb (s .args .disk .s) 0 (c .if1 .left)))
+    sym (ones-miss (fits (numbers (s .args .disk))) Q Q (choose 2 Q ++ choose 3 Q) (λ p. sym (c .before .is-zero .ensures) ∙ c .if1 .left))
 
 loop-holds : tie.Need-loop-holds Inv-loop2 μ-loop2 Inv-loop μ-loop Inv-loop5 μ-loop5 Inv-loop4 μ-loop4 Inv-loop3 μ-loop3 Inv-search μ-search
 loop-holds c = (search needs, c .search .inv)
@@ -343,6 +345,7 @@ search-spec =
     Inv-search
     μ-search
     point-at-requires
+    is-zero-requires
     returns
     search-holds
     loop-holds
