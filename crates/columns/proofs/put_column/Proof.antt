@@ -37,6 +37,9 @@ put-point-requires c κs = search needs
 sub-put-point : tie.Need-sub-put-point
 sub-put-point c = search needs
 
+sub-put-point-2 : tie.Need-sub-put-point-2
+sub-put-point-2 c = search needs
+
 cast-t11-2 : tie.Need-cast-t11-2
 cast-t11-2 c = search needs
 
@@ -114,6 +117,7 @@ put-column-spec =
     cast-t11
     put-point-requires
     sub-put-point
+    sub-put-point-2
     cast-t11-2
     put-point-requires-2
     same-length
