@@ -1,30 +1,25 @@
 -- What the tests may ask of a disk and points that a record can hold.
 --
---   known          : the disk keeps to the limits, and the points lie in the em box
+--   small          : the disk's numbers are small
 --   tested-one, tested-two, tested-three : the tests of Tests.antt, for such a disk and points
 use mathlib.Core.Path.{_≡_, refl}
 use mathlib.Core.Bool.{true, _&&_}
 use mathlib.Core.List.{List, [], _∷_, List·Memᴰ·head}
-use lib.Dec.{T, eqb}
+use lib.Dec.{eqb}
 use Rattle.geometry.specs.declared.Point.{Point}
 use Rattle.geometry.specs.Plane.{Disk}
-use Rattle.geometry.specs.EmBox.{em, inEmBox, WithinLimits}
-use Rattle.geometry.proofs.EmBox.{box-members}
-use Rattle.point_lists.specs.Sets.{In}
+use Rattle.geometry.specs.EmBox.{em}
 use Rattle.point_lists.proofs.Order.{before-not-equal}
 use Rattle.point_lists.proofs.Rising.{rising-test}
-use Rattle.support_tests.specs.Tests.{onBoundaryTest, opposite, acute}
+use Rattle.support_tests.specs.Tests.{onBoundaryTest, opposite, acute, SmallDisk}
+use Rattle.support_tests.proofs.Numbers.{limits-small}
 use Rattle.validity.specs.Valid.{valid}
-use Rattle.validity.proofs.ValidLaws.{limits, valid-disk, valid-points, rises, boxed, valid-lowest, valid-within}
+use Rattle.validity.proofs.ValidLaws.{limits, valid-disk, valid-points, rises, valid-lowest, valid-within}
 use Rattle.belonging.specs.Belonging.{belongs}
 use Rattle.belonging.proofs.Tests.{belongs-one, belongs-two, belongs-three}
 
-pub record Known (d : Disk) (ps : List Point) : Type 0 where
-  pub within : WithinLimits em d
-  pub in-box : (p : Point) → In p ps → T (inEmBox p)
-
-pub known : (d : Disk) (ps : List Point) → valid d ps ≡ true → Known d ps
-known d ps h = record { within = valid-within em d (valid-disk em d ps h); in-box = box-members ps (boxed em ps (valid-points em d ps h)) }
+pub small : (d : Disk) (ps : List Point) → valid d ps ≡ true → SmallDisk d
+small d ps h = limits-small d (valid-within em d (valid-disk em d ps h))
 
 module _ (d : Disk) (a : Point) (h : valid d (a ∷ []) ≡ true) where
   pub tested-one : belongs d (a ∷ []) ≡ (onBoundaryTest d a && eqb (d .s) 0)

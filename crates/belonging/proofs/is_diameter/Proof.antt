@@ -2,8 +2,6 @@
 use mathlib.Core.Path.{sym, _∙_}
 use borrow.Author.Needs.{needs}
 use Rattle.integers.proofs.Tests.{stop, pass}
-use Rattle.support_tests.proofs.Numbers.{limits-small}
-use Rattle.geometry.specs.Plane.{numbers}
 use Rattle.belonging.proofs.is_diameter.Statement.{statement}
 use Rattle.belonging.proofs.is_diameter.Tie as tie
 
@@ -11,7 +9,7 @@ on-boundary-requires : tie.Need-on-boundary-requires
 on-boundary-requires c κs = search needs
 
 is-opposite-requires : tie.Need-is-opposite-requires
-is-opposite-requires c κs = let s = c .before .before in limits-small (numbers (s .args .d)) (s .pre .0)
+is-opposite-requires c κs = search needs
 
 returns : tie.Need-returns
 returns c = pass (sym (c .before .before .on-boundary .ensures) ∙ c .before .if1 .taken) (c .is-opposite .ensures)

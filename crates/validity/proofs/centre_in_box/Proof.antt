@@ -11,7 +11,7 @@ use mir.Facts.{toZ-ofZ}
 use Rattle.integers.specs.Order.{between}
 use Rattle.integers.proofs.Tests.{stop, pass}
 use Rattle.integers.proofs.Bounds.{Value, v-nat, v-mul, v-abs, v-back, fits, back}
-use Rattle.geometry.specs.Plane.{Disk}
+use Rattle.geometry.specs.Plane.{Disk, numbers}
 use Rattle.geometry.specs.declared.Limits.{Limits}
 use Rattle.geometry.specs.EmBox.{largest}
 use Rattle.geometry.proofs.EmBox.{left-size, right-size, foot-size, top-size}
@@ -28,7 +28,7 @@ module _ (c : tie.After-struct-told6) where
   start = c .before .before .before .before .before .before .before
 
   abbrev d : Disk
-  d = start .args .d
+  d = numbers (start .args .d)
 
   abbrev l : Limits
   l = start .args .l

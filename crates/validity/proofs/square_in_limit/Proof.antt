@@ -1,19 +1,25 @@
--- `validity::square_in_limit` meets its contract: the limits are narrow enough for the products.
-use native.Mathlib.Nat.{mul-le-mul, le-refl, lt-of-le-of-lt}
+-- `validity::square_in_limit` meets its contract: E² fits, and its product with the limit is exact.
+use mathlib.Core.Path.{ap, _∙_}
+use native.Mathlib.Nat.{mul-le-mul, lt-of-le-of-lt}
 use borrow.Author.Needs.{needs}
+use lib.Dec.{leb}
+use Rattle.geometry.specs.Plane.{numbers}
 use Rattle.validity.proofs.square_in_limit.Statement.{statement}
 use Rattle.validity.proofs.square_in_limit.Tie as tie
 
-mul-result : tie.Need-mul-result
-mul-result c = let s = c .before in record { fits = lt-of-le-of-lt (mul-le-mul (s .pre .1) (s .pre .1)) (s .pre .0 .squared-fits) }
+mul-product : tie.Need-mul-product
+mul-product c = let s = c .before in record { fits = lt-of-le-of-lt (mul-le-mul (s .pre .1) (s .pre .1)) (s .pre .0 .squared-fits) }
 
-mul-result-2 : tie.Need-mul-result-2
-mul-result-2 c =
-    let s = c .before .before in
-    record { fits = lt-of-le-of-lt (mul-le-mul (le-refl (s .args .l .square)) (mul-le-mul (s .pre .1) (s .pre .1))) (s .pre .0 .square-fits) }
+product-requires : tie.Need-product-requires
+product-requires c κs = search needs
+
+is-at-most-requires : tie.Need-is-at-most-requires
+is-at-most-requires c κs = search needs
 
 returns : tie.Need-returns
-returns c = search needs
+returns c =
+    let d = numbers (c .before .before .before .args .d) in
+    c .is-at-most .ensures ∙ ap (leb (d .s)) (c .before .product .ensures)
 
 pub square-in-limit-spec : {M : Type 1} → statement M
-square-in-limit-spec = tie.close (tie.spec mul-result mul-result-2 returns)
+square-in-limit-spec = tie.close (tie.spec mul-product product-requires is-at-most-requires returns)
