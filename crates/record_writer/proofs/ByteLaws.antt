@@ -55,10 +55,7 @@ pub recordBy-length : (n : ℕ) (d : Disk) (ps : List Point) → oneToThree ps �
 unfolding recordBy
 recordBy-length n d ps h =
     let three = pointsBytes-length (madeThree ps) ∙ ap (λ (k : ℕ). pointWidth * k) (madeThree-length ps h) in
-    simp (length-append, bytesOf-length, three) ∙ behind n
-  where
-    behind : (n : ℕ) → firstAt n + 3 * pointWidth + countWidth ≡ lengthBy n
-    behind n = omega arith
+    simp (length-append, bytesOf-length, three)
 
 -- ---- stored in a buffer
 

@@ -10,7 +10,7 @@
 --   countAt n                                == where the count of points is
 --   lengthBy n                               == how many bytes the record has
 --   recordLength, oldRecordLength            == 53 and 45
-use Prim.Native.Nat.{ℕ, _+_}
+use Prim.Native.Nat.{ℕ, _+_, _*_}
 
 abbrev pub numberWidth : ℕ
 numberWidth = 8
@@ -49,10 +49,10 @@ abbrev pub secondAt : ℕ → ℕ
 secondAt n = firstAt n + pointWidth
 
 abbrev pub thirdAt : ℕ → ℕ
-thirdAt n = secondAt n + pointWidth
+thirdAt n = firstAt n + 2 * pointWidth
 
 abbrev pub countAt : ℕ → ℕ
-countAt n = thirdAt n + pointWidth
+countAt n = firstAt n + 3 * pointWidth
 
 abbrev pub lengthBy : ℕ → ℕ
 lengthBy n = countAt n + countWidth

@@ -4,7 +4,8 @@ ghost use mathlib.Core.List.{[], _∷_, _++_};
 ghost use Prim.Native.Nat.{_+_, _≤_};
 ghost use lib.ListN.{length};
 ghost use lib.Seq.{sets};
-ghost use Rattle.big_endian.specs.Fields.{bytesOf};
+ghost use Rattle.big_endian.specs.Fields.{bytesOf, put};
+ghost use Rattle.wide_numbers.specs.Value.{value};
 ghost use Rattle.geometry.specs.Plane.{members, numbers};
 ghost use Rattle.record_writer.specs.Layout.{xAt, firstAt, pointWidth, sWidth, countWidth, recordLength};
 ghost use Rattle.record_writer.specs.Bytes.{diskBytes, pointBytes, pointsBytes, madeThree, countBytes};
@@ -14,6 +15,7 @@ use disk_checks::Checked;
 use geometry::Disk;
 use geometry::Point;
 use geometry::SupportSet;
+use wide_numbers::Wide;
 
 // Where the fields stand, and how wide they are.
 pub const NUMBER_WIDTH: usize = 8;
@@ -45,7 +47,16 @@ pub enum Written {
     Refused(Refusal),
 }
 
-// X, Y, E and S, which has two words, the high one first.
+// The two words of a number, the high one first.
+fn put_wide(buf: &mut [u8], at: usize, w: Wide)
+    requires { ⌜ at + sWidth ≤ length (now buf) ⌝ }
+    ensures { λ _. ⌜ now (buf .exit) ≡ put sWidth (value w) at (now (buf .entry)) ⌝ }
+{
+    big_endian::put_at(buf, at, NUMBER_WIDTH, w.hi);
+    big_endian::put_at(buf, at + NUMBER_WIDTH, NUMBER_WIDTH, w.lo);
+}
+
+// X, Y, E and S.
 fn put_disk(buf: &mut [u8], d: Disk)
     requires { ⌜ firstAt sWidth ≤ length (now buf) ⌝ }
     ensures { λ _. ⌜ now (buf .exit) ≡ sets (now (buf .entry)) xAt (diskBytes sWidth (numbers d)) ⌝ }
@@ -55,9 +66,7 @@ fn put_disk(buf: &mut [u8], d: Disk)
     big_endian::put_signed_at(buf, X_AT, NUMBER_WIDTH, x);
     big_endian::put_signed_at(buf, Y_AT, NUMBER_WIDTH, y);
     big_endian::put_at(buf, E_AT, NUMBER_WIDTH, d.e);
-    let s = d.s;
-    big_endian::put_at(buf, S_AT, NUMBER_WIDTH, s.hi);
-    big_endian::put_at(buf, S_AT + NUMBER_WIDTH, NUMBER_WIDTH, s.lo);
+    put_wide(buf, S_AT, d.s);
 }
 
 // x and y.

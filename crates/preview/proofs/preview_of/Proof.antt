@@ -3,7 +3,7 @@ use mathlib.Core.Path.{sym, ap, _∙_}
 use borrow.Author.Needs.{needs}
 use Rattle.geometry.specs.EmBox.{em}
 use Rattle.answers.specs.Outcome.{given}
-use Rattle.geometry.specs.Plane.{members}
+use Rattle.geometry.specs.Plane.{numbers, members}
 use Rattle.disk_checks.specs.Checks.{checkOf}
 use Rattle.disk_checks.proofs.CheckLaws.{passed}
 use Rattle.radius.specs.Radius.{wholeRadius, outcome}
@@ -23,7 +23,7 @@ enum-known-r c = search needs
 floats-of-requires : tie.Need-floats-of-requires
 floats-of-requires c κs =
     let w = c .before .before .before in
-    let d = w .before .args .d in
+    let d = numbers (w .before .args .d) in
     let ps = members (w .before .args .t) in
     let k = both-given (checkOf d ps) _ _ (sym (w .whole-radius .ensures) ∙ ap outcome (c .before .r .given .1)) in
     let v = valid-disk em d ps (passed d ps (k .1 .0) .0) in (v, rw (sym (given-same (k .1 .1))) (radius-limit d (limits em d v)))
@@ -34,7 +34,7 @@ enum-known-r-2 c = search needs
 returns : tie.Need-returns
 returns c =
     let w = c .before .before .before .before in
-    let d = w .before .args .d in
+    let d = numbers (w .before .args .d) in
     let ps = members (w .before .args .t) in
     let k = both-given (checkOf d ps) _ _ (sym (w .whole-radius .ensures) ∙ ap outcome (c .before .before .r .given .1)) in
     rw (k .1 .0) (ap given (c .floats-of .ensures ∙ ap (floats d) (sym (given-same (k .1 .1)))))
@@ -42,7 +42,7 @@ returns c =
 returns-2 : tie.Need-returns-2
 returns-2 c =
     let w = c .before .before .before in
-    let d = w .before .args .d in
+    let d = numbers (w .before .args .d) in
     let ps = members (w .before .args .t) in
     rw (refused-first (checkOf d ps) (wholeRadius d) (sym (w .whole-radius .ensures) ∙ ap outcome (c .before .r2 .given .1)))
 

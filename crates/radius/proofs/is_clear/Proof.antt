@@ -10,11 +10,11 @@ use Rattle.geometry.specs.Plane.{numbers}
 use Rattle.radius.proofs.is_clear.Statement.{statement}
 use Rattle.radius.proofs.is_clear.Tie as tie
 
-mul-result : tie.Need-mul-result
-mul-result c = omega (arith, mul-le-mul (c .pre .1) (c .pre .1))
+mul-product : tie.Need-mul-product
+mul-product c = omega (arith, mul-le-mul (c .pre .1) (c .pre .1))
 
-mul-result-2 : tie.Need-mul-result-2
-mul-result-2 c = let k = limits em (numbers (c .before .args .d)) (c .before .pre .0) in omega (arith, mul-le-mul (k .e-small) (k .e-small))
+mul-product-2 : tie.Need-mul-product-2
+mul-product-2 c = let k = limits em (numbers (c .before .args .d)) (c .before .pre .0) in omega (arith, mul-le-mul (k .e-small) (k .e-small))
 
 product-requires : tie.Need-product-requires
 product-requires c κs = search needs
@@ -23,7 +23,7 @@ is-below-requires : tie.Need-is-below-requires
 is-below-requires c κs = search needs
 
 returns : tie.Need-returns
-returns c = let d = numbers (c .before .before .args .d) in c .is-below .ensures ∙ ap (ltb (d .s)) (c .before .product .ensures)
+returns c = let d = numbers (c .before .before .before .args .d) in c .is-below .ensures ∙ ap (ltb (d .s)) (c .before .product .ensures)
 
 pub is-clear-spec : {M : Type 1} → statement M
-is-clear-spec = tie.close (tie.spec mul-result mul-result-2 product-requires is-below-requires returns)
+is-clear-spec = tie.close (tie.spec mul-product mul-product-2 product-requires is-below-requires returns)

@@ -15,8 +15,8 @@ get-signed-at-requires-2 c κs = search needs
 get-at-requires : tie.Need-get-at-requires
 get-at-requires c κs = search needs
 
-get-at-requires-2 : tie.Need-get-at-requires-2
-get-at-requires-2 c κs = search needs
+get-wide-requires : tie.Need-get-wide-requires
+get-wide-requires c κs = search needs
 
 returns : tie.Need-returns
 returns c =
@@ -26,7 +26,7 @@ returns c =
       x = (toZ-ofZ {w = w64} (record { sfits = x .ok }) ∙ x .ensures) i;
       y = (toZ-ofZ {w = w64} (record { sfits = y .ok }) ∙ y .ensures) i;
       e = c .before .get-at .ensures .0 i;
-      s = c .get-at2 .ensures .0 i;
+      s = c .get-wide .ensures i;
     }
 
 pub get-disk-spec : {M : Type 1} → statement M
@@ -36,5 +36,5 @@ get-disk-spec =
     get-signed-at-requires
     get-signed-at-requires-2
     get-at-requires
-    get-at-requires-2
+    get-wide-requires
     returns)

@@ -1,61 +1,74 @@
--- `record_reader::read_record` meets its contract: the length, the count, then the checks of what stands in the bytes.
-use mathlib.Core.List.{List}
-use mathlib.Core.Path.{_≡_, sym, ap, ap₂, _∙_}
-use mathlib.Core.Bool.{true}
+-- `record_reader::read_record` meets its contract: the length says which record it is.
+use mathlib.Core.Path.{_≡_, sym, ap, subst, _∙_}
 use Prim.Native.Nat.{ℕ}
 use borrow.Author.Needs.{needs}
 use borrow.Author.Tests.{eq-eqb, ne-eqb}
-use lib.Dec.{eqb}
+use lib.Dec.{lit≤}
 use lib.ListN.{length}
-use Rattle.geometry.specs.declared.Point.{Point}
-use Rattle.record_writer.specs.Layout.{recordLength}
-use Rattle.record_reader.specs.Reading.{pointsIn, countIn, heldOf}
+use Rattle.geometry.specs.declared.Limits.{Limits}
+use Rattle.geometry.specs.EmBox.{em}
+use Rattle.validity.specs.Narrow.{Narrow, Narrower}
+use Rattle.validity.proofs.ValidLaws.{narrow-em, narrow-old}
+use Rattle.validity.proofs.Wider.{narrower-self, old-narrower}
+use Rattle.record_writer.specs.Layout.{sWidth, oldSWidth, oldRecordLength, recordLength}
+use Rattle.record_reader.specs.Reading.{readBy}
+use Rattle.record_reader.specs.Widths.{SWidth}
 use Rattle.record_reader.proofs.read_record.Statement.{statement}
 use Rattle.record_reader.proofs.read_record.Tie as tie
 
-get-disk-requires : tie.Need-get-disk-requires
-get-disk-requires c κs = search needs
+old-width : SWidth oldSWidth
+old-width = record { from-eight = lit≤ tt; to-sixteen = lit≤ tt }
 
-get-points-requires : tie.Need-get-points-requires
-get-points-requires c κs = search needs
+width : SWidth sWidth
+width = record { from-eight = lit≤ tt; to-sixteen = lit≤ tt }
 
-count-agrees-requires : tie.Need-count-agrees-requires
-count-agrees-requires c κs = search needs
+-- limits that a function gave
+given-limits : (l : Limits) {k : Limits} → k ≡ l → Narrow l → Narrower l em → Narrow k × Narrower k em
+given-limits l e h w = subst (λ (m : Limits). Narrow m × Narrower m em) (sym e) (h, w)
 
-checked-requires : tie.Need-checked-requires
-checked-requires c κs = search needs
+old-em-limits-requires : tie.Need-old-em-limits-requires
+old-em-limits-requires c κs = search needs
 
--- what the tests say of the bytes
-module _ (c : tie.After-count-agrees) where
-  abbrev bytes : List ℕ
-  bytes = c .before .before .before .before .before .args .bytes .now
+read-by-requires : tie.Need-read-by-requires
+read-by-requires c κs =
+    let k = given-limits _ (c .old-em-limits .ensures) narrow-old old-narrower in
+    (old-width, c .before .if1 .taken, k .0, k .1)
 
-  long : eqb (length bytes) recordLength ≡ true
-  long = eq-eqb (length bytes) recordLength (c .before .before .before .if1 .taken)
+em-limits-requires : tie.Need-em-limits-requires
+em-limits-requires c κs = search needs
 
-  agreeing : c .count-agrees .result ≡ eqb (countIn bytes) (length (pointsIn bytes))
-  agreeing = c .count-agrees .ensures ∙ ap (λ (ps : List Point). eqb (countIn bytes) (length ps)) (c .before .get-points .ensures)
+read-by-requires-2 : tie.Need-read-by-requires-2
+read-by-requires-2 c κs =
+    let k = given-limits _ (c .em-limits .ensures) narrow-em (narrower-self em) in
+    (width, c .before .if2 .taken, k .0, k .1)
 
 returns : tie.Need-returns
 returns c =
-    let s = c .before .before in
-    rw (long s, sym (agreeing s) ∙ c .before .if2 .taken)
-    (c .checked .ensures ∙ ap₂ heldOf (s .before .before .get-disk .ensures) (s .before .get-points .ensures))
+    let old = c .before .before in
+    let bytes = old .before .before .args .bytes .now in
+    rw (eq-eqb (length bytes) oldRecordLength (old .if1 .taken))
+    (c .read-by .ensures ∙ ap (λ (l : Limits). readBy oldSWidth l bytes) (c .before .old-em-limits .ensures))
 
 returns-2 : tie.Need-returns-2
-returns-2 c = rw (long (c .before), sym (agreeing (c .before)) ∙ c .if2 .left)
+returns-2 c =
+    let other = c .before .before .before in
+    let bytes = other .before .before .args .bytes .now in
+    rw (ne-eqb (length bytes) oldRecordLength (other .if1 .left))
+    (c .read-by2 .ensures ∙ ap (λ (l : Limits). readBy sWidth l bytes) (c .before .em-limits .ensures))
 
 returns-3 : tie.Need-returns-3
-returns-3 c = rw (ne-eqb _ _ (c .if1 .left))
+returns-3 c =
+    let bytes = c .before .before .before .args .bytes .now in
+    rw (ne-eqb (length bytes) oldRecordLength (c .before .if1 .left), ne-eqb (length bytes) recordLength (c .if2 .left))
 
 pub read-record-spec : {M : Type 1} → statement M
 read-record-spec =
     tie.close
     (tie.spec
-    get-disk-requires
-    get-points-requires
-    count-agrees-requires
-    checked-requires
+    old-em-limits-requires
+    read-by-requires
     returns
+    em-limits-requires
+    read-by-requires-2
     returns-2
     returns-3)
