@@ -1,7 +1,7 @@
 // The preview of a disk, as C has the call.
 ghost use mathlib.Core.Path.{_≡_};
 ghost use Rattle.answers.specs.Outcome.{refused, numberOf};
-ghost use Rattle.geometry.specs.Plane.{members};
+ghost use Rattle.geometry.specs.Plane.{members, numbers};
 ghost use Rattle.preview.specs.Preview.{previewOf};
 ghost use Rattle.c_types.specs.Support.{pointsOf};
 ghost use Rattle.c_preview.specs.Answer.{previewAnswer};
@@ -31,7 +31,7 @@ fn no_preview(r: Refusal) -> PreviewAnswer
 }
 
 fn preview_answer(d: Disk, t: SupportSet) -> PreviewAnswer
-    ensures { λ r. ⌜ r ≡ previewAnswer (previewOf d (members t)) ⌝ }
+    ensures { λ r. ⌜ r ≡ previewAnswer (previewOf (numbers d) (members t)) ⌝ }
 {
     let shown = preview::preview_of(d, t);
     match shown {
@@ -46,7 +46,7 @@ fn preview_answer(d: Disk, t: SupportSet) -> PreviewAnswer
 }
 
 pub fn preview_of(d: Disk, t: Support) -> PreviewAnswer
-    ensures { λ r. ⌜ r ≡ previewAnswer (previewOf d (pointsOf t)) ⌝ }
+    ensures { λ r. ⌜ r ≡ previewAnswer (previewOf (numbers d) (pointsOf t)) ⌝ }
 {
     let given = c_types::given_set(t);
     match given {

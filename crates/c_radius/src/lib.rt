@@ -1,7 +1,7 @@
 // The whole radius of a disk, as C has the call.
 ghost use mathlib.Core.Path.{_≡_};
 ghost use Rattle.answers.specs.Outcome.{refused, numberOf};
-ghost use Rattle.geometry.specs.Plane.{members};
+ghost use Rattle.geometry.specs.Plane.{members, numbers};
 ghost use Rattle.radius.specs.Radius.{radiusOf};
 ghost use Rattle.c_types.specs.Support.{pointsOf};
 ghost use Rattle.c_radius.specs.Answer.{radiusAnswer};
@@ -28,7 +28,7 @@ fn no_radius(r: Refusal) -> RadiusAnswer
 }
 
 fn radius_answer(d: Disk, t: SupportSet) -> RadiusAnswer
-    ensures { λ r. ⌜ r ≡ radiusAnswer (radiusOf d (members t)) ⌝ }
+    ensures { λ r. ⌜ r ≡ radiusAnswer (radiusOf (numbers d) (members t)) ⌝ }
 {
     let radius = radius::whole_radius(d, t);
     match radius {
@@ -41,7 +41,7 @@ fn radius_answer(d: Disk, t: SupportSet) -> RadiusAnswer
 }
 
 pub fn whole_radius(d: Disk, t: Support) -> RadiusAnswer
-    ensures { λ r. ⌜ r ≡ radiusAnswer (radiusOf d (pointsOf t)) ⌝ }
+    ensures { λ r. ⌜ r ≡ radiusAnswer (radiusOf (numbers d) (pointsOf t)) ⌝ }
 {
     let given = c_types::given_set(t);
     match given {

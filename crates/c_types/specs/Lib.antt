@@ -1,2 +1,3 @@
 pub mod Support
+pub mod Disks
 pub mod Code

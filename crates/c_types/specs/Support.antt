@@ -1,6 +1,6 @@
 -- A support set as a struct of numbers: a size and three points.
 --
---   noDisk, noSupport == what stands beside a refusal in place of a disk and a support set
+--   noSupport      == what stands beside a refusal in place of a support set
 --   supportOf ps   == the points ps, one to three, the last repeated to make three
 --   pointsOf t     == the first `size` points of t; none where the size is not 1, 2 or 3
 --   setPoints g    == the points of a support set that is given, or none
@@ -10,16 +10,13 @@ use mathlib.Core.List.{List, [], _∷_}
 use Prim.Native.Nat.{ℕ, zero, suc}
 use lib.IntN.{pos}
 use Rattle.geometry.specs.declared.Point.{Point}
-use Rattle.geometry.specs.Plane.{Disk, members}
+use Rattle.geometry.specs.Plane.{members}
 use Rattle.c_types.specs.declared.Support.{Support}
 use Rattle.c_types.specs.declared.Given.{Given}
 use Rattle.c_types.specs.declared.Given.the-variants.{Set, Nothing}
 
 abbrev pub origin : Point
 origin = record { x = pos 0; y = pos 0 }
-
-abbrev pub noDisk : Disk
-noDisk = record { x = pos 0; y = pos 0; e = 0; s = 0 }
 
 abbrev pub noSupport : Support
 noSupport = record { size = 0; a = origin; b = origin; c = origin }

@@ -2,11 +2,13 @@
 ghost use mathlib.Core.Path.{_≡_};
 ghost use Rattle.answers.specs.Outcome.{numberOf};
 ghost use Rattle.geometry.specs.Plane.{members};
-ghost use Rattle.c_types.specs.Support.{noDisk, noSupport, supportOf, pointsOf, setPoints};
+ghost use Rattle.c_types.specs.Disks.{noDisk};
+ghost use Rattle.c_types.specs.Support.{noSupport, supportOf, pointsOf, setPoints};
 use answers::Refusal;
 use geometry::Disk;
 use geometry::Point;
 use geometry::SupportSet;
+use wide_numbers::Wide;
 
 // The points a, b and c, of which the first `size` count.
 #[repr(C)]
@@ -59,7 +61,7 @@ pub fn no_disk() -> Disk
         x: 0,
         y: 0,
         e: 0,
-        s: 0,
+        s: Wide { hi: 0, lo: 0 },
     }
 }
 

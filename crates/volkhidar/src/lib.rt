@@ -24,6 +24,7 @@ ghost use Rattle.c_through.specs.Answer.{throughAnswer};
 ghost use Rattle.c_radius.specs.Answer.{radiusAnswer};
 ghost use Rattle.c_preview.specs.Answer.{previewAnswer};
 ghost use Rattle.c_read.specs.Answer.{recordAnswer};
+ghost use Rattle.geometry.specs.Plane.{numbers};
 use c_append::KindAndValues;
 use c_disk::DiskAnswer;
 use c_glyph::GlyphAnswer;
@@ -97,22 +98,22 @@ pub extern "C" fn volkhidar_reduce_to_hull(list: &mut [i16]) -> LoadAnswer
 
 #[no_mangle]
 pub extern "C" fn volkhidar_whole_radius(d: Disk, t: Support) -> RadiusAnswer
-    ensures { λ r. ⌜ r ≡ radiusAnswer (radiusOf d (pointsOf t)) ⌝ }
+    ensures { λ r. ⌜ r ≡ radiusAnswer (radiusOf (numbers d) (pointsOf t)) ⌝ }
 {
     c_radius::whole_radius(d, t)
 }
 
 #[no_mangle]
 pub extern "C" fn volkhidar_preview(d: Disk, t: Support) -> PreviewAnswer
-    ensures { λ r. ⌜ r ≡ previewAnswer (previewOf d (pointsOf t)) ⌝ }
+    ensures { λ r. ⌜ r ≡ previewAnswer (previewOf (numbers d) (pointsOf t)) ⌝ }
 {
     c_preview::preview_of(d, t)
 }
 
 #[no_mangle]
 pub extern "C" fn volkhidar_write_record(d: Disk, t: Support, buf: &mut [u8]) -> u64
-    ensures { λ r. ⌜ r ≡ codeOf (writer.writeOf d (pointsOf t) (now (buf .entry))) ⌝ }
-    ensures { λ _. ⌜ now (buf .exit) ≡ writer.bufferAfter d (pointsOf t) (now (buf .entry)) ⌝ }
+    ensures { λ r. ⌜ r ≡ codeOf (writer.writeOf (numbers d) (pointsOf t) (now (buf .entry))) ⌝ }
+    ensures { λ _. ⌜ now (buf .exit) ≡ writer.bufferAfter (numbers d) (pointsOf t) (now (buf .entry)) ⌝ }
 {
     c_write::write_record(d, t, buf)
 }

@@ -1,10 +1,14 @@
 -- `c_disk::smallest_disk` meets its contract: each case of the answer is `diskAnswer` of its outcome, and the list is as the engine leaves it.
-use mathlib.Core.Path.{ap, _∙_}
+use mathlib.Core.Path.{sym, ap₂, _∙_}
+use Prim.Native.Nat.{_^_, _<_}
+use native.Mathlib.Omega.{arith}
 use borrow.Author.Needs.{needs}
 use Rattle.engine.specs.Engine.{outcome}
 use Rattle.c_types.specs.declared.Support.{Support}
 use Rattle.c_disk.specs.Answer.{diskAnswer}
+use Rattle.geometry.specs.declared.Disk.{Disk}
 use Rattle.c_types.proofs.Known.{known-outcome}
+use Rattle.c_types.proofs.Words.{in-words}
 use Rattle.c_disk.proofs.smallest_disk.Statement.{statement}
 use Rattle.c_disk.proofs.smallest_disk.Tie as tie
 
@@ -31,8 +35,9 @@ returns c =
     let found = c .before .before in
     let engine = found .before .before .before .smallest-disk in
     let d = found .enclosed .given .0 .0 in
-    let n = found .enclosed .given .0 .1 .1 .0 in (
-      ap (λ (t : Support). record { refusal = 0; disk = d; support = t; tests = n }) (c .support-of .ensures)
+    let n = found .enclosed .given .0 .1 .1 .0 in
+    let word : d .s .lo < 2 ^ 64 = omega (arith, c .before .known-told .given) in (
+      ap₂ (λ (k : Disk) (t : Support). record { refusal = 0; disk = k; support = t; tests = n }) (sym (in-words d word)) (c .support-of .ensures)
           ∙ known-outcome outcome diskAnswer (found .enclosed .given .1) (engine .ensures .0),
       engine .ensures .1,
     )

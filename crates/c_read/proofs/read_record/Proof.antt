@@ -1,10 +1,14 @@
 -- `c_read::read_record` meets its contract: each case of the answer is `recordAnswer` of its outcome.
-use mathlib.Core.Path.{ap, _∙_}
+use mathlib.Core.Path.{sym, ap₂, _∙_}
+use Prim.Native.Nat.{_^_, _<_}
+use native.Mathlib.Omega.{arith}
 use borrow.Author.Needs.{needs}
 use Rattle.record_reader.specs.Reading.{outcome}
 use Rattle.c_types.specs.declared.Support.{Support}
 use Rattle.c_read.specs.Answer.{recordAnswer}
+use Rattle.geometry.specs.declared.Disk.{Disk}
 use Rattle.c_types.proofs.Known.{known-outcome}
+use Rattle.c_types.proofs.Words.{in-words}
 use Rattle.c_read.proofs.read_record.Statement.{statement}
 use Rattle.c_read.proofs.read_record.Tie as tie
 
@@ -26,7 +30,9 @@ no-record-requires c κs = search needs
 returns : tie.Need-returns
 returns c =
     let read = c .before .before in
-    ap (λ (t : Support). record { refusal = 0; disk = read .«record» .given .0 .0; support = t }) (c .support-of .ensures)
+    let d = read .«record» .given .0 .0 in
+    let word : d .s .lo < 2 ^ 64 = omega (arith, c .before .known-told .given) in
+    ap₂ (λ (k : Disk) (t : Support). record { refusal = 0; disk = k; support = t }) (sym (in-words d word)) (c .support-of .ensures)
     ∙ known-outcome outcome recordAnswer (read .«record» .given .1) (read .before .before .read-record .ensures)
 
 returns-2 : tie.Need-returns-2

@@ -53,7 +53,7 @@ returns : tie.Need-returns
 returns c =
     let test = c .before in
     let a = test .before .before .before .before .before .args in
-    let due = unset (a .d) (a .buf .now) (none (test .before)) (ap short (lt-ltb (length (a .buf .now)) recordLength (test .if1 .taken))) in
+    let due = unset (numbers (a .d)) (a .buf .now) (none (test .before)) (ap short (lt-ltb (length (a .buf .now)) recordLength (test .if1 .taken))) in
     (c .code .ensures ∙ due .0, due .1)
 
 code-requires-2 : tie.Need-code-requires-2
@@ -76,7 +76,7 @@ returns-3 : tie.Need-returns-3
 returns-3 c =
     let test = c .before in
     let a = test .before .before .before .before .before .args in
-    let due = unset (a .d) (a .buf .now) (none (test .before)) (ap short (le-ltb (length (a .buf .now)) recordLength (test .if1 .left))) in
+    let due = unset (numbers (a .d)) (a .buf .now) (none (test .before)) (ap short (le-ltb (length (a .buf .now)) recordLength (test .if1 .left))) in
     (c .code2 .ensures ∙ due .0, due .1)
 
 pub write-record-spec : {M : Type 1} → statement M
