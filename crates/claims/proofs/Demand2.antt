@@ -38,8 +38,8 @@ engine-right l e h =
 records-go-round : RecordsGoRound
 records-go-round = record {
   read-back = λ d ps buf e. ap readOf (filled d ps buf e) ∙ read-written d ps (written-checked d ps buf e .1);
-  write-back = λ bs bytes d ps e buf h.
-      let again = written-again bs bytes d ps e in
+  write-back = λ bs bytes long d ps e buf h.
+      let again = written-again bs bytes long d ps e in
       let done = written d ps buf (again .0) h in
       (done, filled d ps buf done ∙ again .1);
 }

@@ -18,14 +18,14 @@ use Rattle.geometry.specs.EmBox.{em}
 use Rattle.validity.specs.Valid.{valid}
 use Rattle.disk_checks.specs.Checks.{checkOf}
 use Rattle.disk_checks.proofs.CheckLaws.{passed}
-use Rattle.record_writer.specs.Layout.{recordLength}
+use Rattle.record_writer.specs.Layout.{recordLength, sWidth}
 use Rattle.record_writer.specs.Bytes.{recordBytes}
 use Rattle.record_writer.specs.Writing.{writeOf, leftBy, bufferAfter}
-use Rattle.record_writer.proofs.ByteLaws.{recordBytes-length}
+use Rattle.record_writer.proofs.ByteLaws.{recordBy-length}
 use Rattle.validity.proofs.ValidLaws.{valid-points, counted}
 
 pub record-long : (d : Disk) (ps : List Point) → valid d ps ≡ true → length (recordBytes d ps) ≡ recordLength
-record-long d ps v = recordBytes-length d ps (counted em ps (valid-points em d ps v))
+record-long d ps v = recordBy-length sWidth d ps (counted em ps (valid-points em d ps v))
 
 module _ (d : Disk) (ps : List Point) (buf : List ℕ) where
   pub written : checkOf d ps ≡ given tt → recordLength ≤ length buf → writeOf d ps buf ≡ given tt

@@ -7,7 +7,7 @@
 --   bits-back               : its bits are those of its values
 --   all-values              : Values
 use mathlib.Core.Path.{_≡_, refl, sym, ap, _∙_, subst}
-use mathlib.Core.Logic.{_↔_}
+use mathlib.Core.Logic.{_↔_, _⊎_, inl, inr}
 use mathlib.Core.Bool.{false}
 use mathlib.Core.List.{List, [], _∷_, _++_}
 use Prim.Native.Nat.{ℕ, _*_, _≤_}
@@ -32,7 +32,7 @@ use Rattle.integers.proofs.Tests.{both, test-true, between-most}
 use Rattle.geometry.specs.declared.Point.{Point}
 use Rattle.geometry.specs.Plane.{Disk}
 use Rattle.geometry.specs.Points.{flat}
-use Rattle.geometry.specs.EmBox.{em, largest}
+use Rattle.geometry.specs.EmBox.{em, oldEm, largest}
 use Rattle.geometry.proofs.EmBox.{left-size, right-size, foot-size, top-size}
 use Rattle.geometry.proofs.PointLists.{length-flat}
 use Rattle.description.specs.Description.{named, loadOf, listAfter}
@@ -41,13 +41,13 @@ use Rattle.description.proofs.AcceptedTexts.{accepted-count}
 use Rattle.sheet.specs.Sheet.{Place, glyphOf, partOf}
 use Rattle.sheet.proofs.Parts.{given-pair, given-within, given-part}
 use Rattle.belonging.specs.Belonging.{Belong}
-use Rattle.disk_checks.specs.Checks.{checkOf}
+use Rattle.disk_checks.specs.Checks.{checkIn, checkOf}
 use Rattle.disk_checks.proofs.CheckLaws.{passed}
-use Rattle.record_writer.specs.Bytes.{recordBytes}
+use Rattle.record_writer.specs.Bytes.{recordBytes, oldRecordBytes}
 use Rattle.record_writer.specs.Writing.{leftBy}
 use Rattle.record_reader.specs.Reading.{readOf}
 use Rattle.radius.specs.Radius.{wholeRadius, radiusOf}
-use Rattle.record_reader.proofs.RoundTrip.{read-written, written-again}
+use Rattle.record_reader.proofs.RoundTrip.{read-written, old-written, record-form}
 use Rattle.radius.proofs.RadiusLaws.{radius-is-least}
 use Rattle.validity.proofs.ValidLaws.{valid-disk}
 use Rattle.preview.specs.declared.Preview.{Preview}
@@ -55,11 +55,11 @@ use Rattle.preview.specs.Preview.{negative, quotient, floats, previewOf}
 use Rattle.preview.proofs.Exact.{preview-exact}
 use Rattle.preview.proofs.Finite.{has-finite, round-finite}
 use Rattle.rules.specs.Row.{AllKept, GoesBy}
-use Rattle.rules.specs.Rules.{Bytes, loaderRow, sheetRow, Recordable}
+use Rattle.rules.specs.Rules.{Bytes, loaderRow, sheetRow, Recordable, IsRecordOf, current, old}
 use Rattle.claims.proofs.Records.{record-long, written-checked}
 use Rattle.claims.specs.Values.{glyphBytes, IsPart, LeastRadius, PreviewIsRight, bits, shownBy, Values}
 use Rattle.rules.proofs.RowLaws.{row-through}
-use Rattle.rules.proofs.Recordables.{recordable-valid, checked-rules, rules-checked}
+use Rattle.rules.proofs.Recordables.{recordable-valid, checked-in, rules-in, checked-rules, rules-checked}
 use Rattle.rules.proofs.Calls as calls
 
 -- ---- a glyph
@@ -149,7 +149,7 @@ module _ (d : Disk) (ps : List Point) (h : Recordable d ps) where
 
   right : PreviewIsRight d (floats d (wholeRadius d))
   right =
-      let x = preview-exact d (valid-disk em d ps (recordable-valid d ps h)) in
+      let x = preview-exact d (valid-disk em d ps (recordable-valid em d ps h)) in
       record {
         x-rounded = record {
           over = x .x-exact;
@@ -225,12 +225,17 @@ loader-list t l n e =
     after-given t l n e
     ∙ ap (λ (k : ℕ). flat (named t) ++ drop k l) (length-flat (named t) ∙ ap (λ (k : ℕ). 2 * k) (sym (accepted-count t l n e)))
 
-reader : (bs : List ℕ) → Bytes bs → (d : Disk) (ps : List Point)
-    → (readOf bs ≡ given (d, ps)) ↔ (Recordable d ps × Belong d ps × (bs ≡ recordBytes d ps))
-reader bs bytes d ps = (
-  λ e. let w = written-again bs bytes d ps e in let k = checked-rules d ps (w .0) in (k .0, k .1, sym (w .1)),
-  λ h. ap readOf (h .2) ∙ read-written d ps (rules-checked d ps (h .0) (h .1)),
-)
+reader : (bs : List ℕ) → Bytes bs → (d : Disk) (ps : List Point) → (readOf bs ≡ given (d, ps)) ↔ (IsRecordOf d ps bs × Belong d ps)
+reader bs bytes d ps = (λ e. is-record (record-form bs bytes d ps e), λ h. is-read (h .0) (h .1))
+  where
+    is-record : ((checkOf d ps ≡ given tt) × (recordBytes d ps ≡ bs)) ⊎ ((checkIn oldEm d ps ≡ given tt) × (oldRecordBytes d ps ≡ bs))
+        → IsRecordOf d ps bs × Belong d ps
+    is-record (inl w) = let k = checked-rules d ps (w .0) in (current (k .0) (sym (w .1)), k .1)
+    is-record (inr w) = let k = checked-in oldEm d ps (w .0) in (old (k .0) (sym (w .1)), k .1)
+
+    is-read : IsRecordOf d ps bs → Belong d ps → readOf bs ≡ given (d, ps)
+    is-read (current r e) b = ap readOf e ∙ read-written d ps (rules-checked d ps r b)
+    is-read (old r e) b = ap readOf e ∙ old-written d ps (rules-in oldEm d ps r b)
 
 pub all-values : Values
 all-values = record {

@@ -5,7 +5,7 @@
 --                       centre and fractional squared radius that holds them all has a smaller squared radius, and only the same disk has
 --                       an equal one. Its rim corners are the first set that fixes it, by document 01."
 --   RecordsGoRound   == "A record read back yields the disk and rim corners written, and a record accepted by the reader, written again,
---                       yields its own bytes."
+--                       yields its own bytes." So it is with records of 53 bytes; what one of 45 gives is said in wider_em/specs/WiderEm.antt.
 --   Demand2          == both
 use mathlib.Core.Path.{_≡_}
 use mathlib.Core.List.{List}
@@ -38,9 +38,9 @@ pub record RecordsGoRound : Type 0 where
   pub read-back :
       (d : Disk) (ps : List Point) (buf : List ℕ) → writeOf d ps buf ≡ given tt
       → readOf (take recordLength (bufferAfter d ps buf)) ≡ given (d, ps)
-  -- what is read, written again, in any buffer that is long enough, is not refused and gives its own bytes
+  -- what is read of 53 bytes, written again, in any buffer that is long enough, is not refused and gives its own bytes
   pub write-back :
-      (bs : List ℕ) → Bytes bs → (d : Disk) (ps : List Point) → readOf bs ≡ given (d, ps)
+      (bs : List ℕ) → Bytes bs → length bs ≡ recordLength → (d : Disk) (ps : List Point) → readOf bs ≡ given (d, ps)
       → (buf : List ℕ) → recordLength ≤ length buf
       → (writeOf d ps buf ≡ given tt) × (take recordLength (bufferAfter d ps buf) ≡ bs)
 

@@ -35,7 +35,7 @@ use Rattle.record_writer.specs.Writing.{writeOf, bufferAfter}
 use Rattle.preview.specs.declared.Preview.{Preview}
 use Rattle.preview.specs.Preview.{negative, previewOf}
 use Rattle.rules.specs.Row.{AllKept, GoesBy}
-use Rattle.rules.specs.Rules.{Bytes, loaderRow, sheetRow, Recordable}
+use Rattle.rules.specs.Rules.{Bytes, loaderRow, sheetRow, Recordable, IsRecordOf}
 
 -- ---- a glyph
 
@@ -97,11 +97,11 @@ pub record Values : Type 0 where
   -- a record is read as the disk and the points whose record its bytes are
   pub reader :
       (bs : List ℕ) → Bytes bs → (d : Disk) (ps : List Point)
-      → (readOf bs ≡ given (d, ps)) ↔ (Recordable d ps × Belong d ps × (bs ≡ recordBytes d ps))
-  -- "The writer fills the first 44 bytes and leaves the rest": 45 by 02, item 4
+      → (readOf bs ≡ given (d, ps)) ↔ (IsRecordOf d ps bs × Belong d ps)
+  -- "The writer fills the first 44 bytes and leaves the rest": 53 by 02, item 10
   pub writer :
       (d : Disk) (ps : List Point) (b : List ℕ) → writeOf d ps b ≡ given tt
-      → (length (recordBytes d ps) ≡ 45) × (bufferAfter d ps b ≡ recordBytes d ps ++ drop 45 b)
+      → (length (recordBytes d ps) ≡ 53) × (bufferAfter d ps b ≡ recordBytes d ps ++ drop 53 b)
   -- "the cutting radius is the least whole R with R²E² greater than S" (02, item 3)
   pub radius : (d : Disk) (ps : List Point) (r : ℕ) → (radiusOf d ps ≡ given r) ↔ (Recordable d ps × Belong d ps × LeastRadius d r)
   -- "The preview is three f64 values: .."

@@ -4,9 +4,8 @@
 --   left-size, right-size, foot-size, top-size : no limit of the box is larger, in size, than the largest
 --   point-size   : no coordinate of a point in the box is larger, in size, than the largest
 --   right-of     : every point of the em box is to the right of `leftOfBox`
---   box-members  : each point of a list that is in the em box is
---   members-box  : a list whose points all are is
---   all-inside, inside-all : the same by the four inequalities
+--   all-in, in-all : a list lies in the box where and only where each of its points does
+--   all-inside, inside-all : the same for the em box; box-members, members-box : with the test of a point
 use mathlib.Core.Path.{_≡_, refl, sym, subst}
 use mathlib.Core.Logic.{_⊎_, inl, inr}
 use mathlib.Core.Bool.{true}
@@ -18,7 +17,7 @@ use lib.IntN.{natAbs}
 use lib.Signed.{_<ℤ_, leZ}
 use Rattle.integers.specs.Order.{between}
 use Rattle.integers.proofs.Order.{<-≤-trans}
-use Rattle.integers.proofs.Tests.{first, rest, pass, both, test-true, true-test, between-most, between-low, between-high}
+use Rattle.integers.proofs.Tests.{first, rest, both, test-true, true-test, between-most, between-low, between-high}
 use Rattle.geometry.specs.declared.Point.{Point}
 use Rattle.geometry.specs.declared.Limits.{Limits}
 use Rattle.geometry.specs.EmBox.{em, leftOfBox, inBox, allInBox, inEmBox, allInEmBox, Inside, largest}
@@ -72,22 +71,30 @@ inside-test l p i =
     both (both (test-true (leZ (l .left) (p .x)) (i .from-left .le)) (test-true (leZ (p .x) (l .right)) (i .to-right .le)))
     (both (test-true (leZ (l .foot) (p .y)) (i .from-foot .le)) (test-true (leZ (p .y) (l .top)) (i .to-top .le)))
 
-pub box-members : (P : List Point) → allInEmBox P ≡ true → (p : Point) → List·Memᴰ p P → T (inEmBox p)
+-- ---- lists
+
+pub all-in : (l : Limits) (P : List Point) → allInBox l P ≡ true → (p : Point) → List·Memᴰ p P → Inside l p
 unfolding allInBox
-box-members [] h p i = absurd (List·Memᴰ·not-nil i)
-box-members (q ∷ P) h p i = go (λ (k : List·Memᴰ p P). box-members P (rest (inEmBox q) (allInEmBox P) h) p k) (List·Memᴰ·cases-cons i)
+all-in l [] h p i = absurd (List·Memᴰ·not-nil i)
+all-in l (q ∷ P) h p i = go (λ (k : List·Memᴰ p P). all-in l P (rest (inBox l q) (allInBox l P) h) p k) (List·Memᴰ·cases-cons i)
   where
-    go : (List·Memᴰ p P → T (inEmBox p)) → (p ≡ q) ⊎ List·Memᴰ p P → T (inEmBox p)
-    go f (inl e) = subst (λ (r : Point). T (inEmBox r)) (sym e) (true-test (first (inEmBox q) (allInEmBox P) h))
+    go : (List·Memᴰ p P → Inside l p) → (p ≡ q) ⊎ List·Memᴰ p P → Inside l p
+    go f (inl e) = subst (Inside l) (sym e) (inside l q (first (inBox l q) (allInBox l P) h))
     go f (inr k) = f k
 
-pub members-box : (P : List Point) → ((p : Point) → List·Memᴰ p P → T (inEmBox p)) → allInEmBox P ≡ true
+pub in-all : (l : Limits) (P : List Point) → ((p : Point) → List·Memᴰ p P → Inside l p) → allInBox l P ≡ true
 unfolding allInBox
-members-box [] h = refl
-members-box (p ∷ P) h = sym (pass (test-true (inEmBox p) (h p (List·Memᴰ·head refl))) (sym (members-box P (λ q i. h q (List·Memᴰ·tail i)))))
+in-all l [] h = refl
+in-all l (p ∷ P) h = both (inside-test l p (h p (List·Memᴰ·head refl))) (in-all l P (λ q i. h q (List·Memᴰ·tail i)))
 
 pub all-inside : (P : List Point) → allInEmBox P ≡ true → (p : Point) → List·Memᴰ p P → Inside em p
-all-inside P h p i = inside em p (test-true (inEmBox p) (box-members P h p i))
+all-inside P h p i = all-in em P h p i
 
 pub inside-all : (P : List Point) → ((p : Point) → List·Memᴰ p P → Inside em p) → allInEmBox P ≡ true
-inside-all P h = members-box P (λ p i. true-test (inside-test em p (h p i)))
+inside-all P h = in-all em P h
+
+pub box-members : (P : List Point) → allInEmBox P ≡ true → (p : Point) → List·Memᴰ p P → T (inEmBox p)
+box-members P h p i = true-test (inside-test em p (all-inside P h p i))
+
+pub members-box : (P : List Point) → ((p : Point) → List·Memᴰ p P → T (inEmBox p)) → allInEmBox P ≡ true
+members-box P h = inside-all P (λ p i. inside em p (test-true (inEmBox p) (h p i)))

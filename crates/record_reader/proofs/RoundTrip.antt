@@ -9,8 +9,9 @@
 --   Accepted, accepted : what the reader accepts has a record's length, and in it stand the disk, the points and their count
 --   rewritten         : bytes of a record's length with the right count are the record of what stands in them
 --   record-form       : bytes that the reader accepts are the record of 53 bytes or of 45 of a disk and points that pass its checks
+--   written-again, old-again : so they are by their length
 --   record-injective  : valid disks and points with equal records are equal
-use mathlib.Core.Path.{_≡_, refl, sym, ap, ap₂, _∙_}
+use mathlib.Core.Path.{_≡_, refl, sym, ap, ap₂, _∙_, subst}
 use mathlib.Core.Logic.{_⊎_, inl, inr}
 use mathlib.Core.Bool.{Bool, true, false, not, true≢false, _&&_}
 use mathlib.Core.List.{List, [], _∷_, _++_}
@@ -119,7 +120,7 @@ module _ {w : ℕ} {l : Limits} (fit : Wide w l) where
         let v = valid-points l d ps h in
         read-points d (limits l d (valid-disk l d ps h)) n byte ps some (rises l ps v) (boxed l ps v)
 
-    read-fields : Read w (recordBy w d ps) d ps (length ps)
+    pub read-fields : Read w (recordBy w d ps) d ps (length ps)
     unfolding recordBy
     read-fields = read-counting (length ps) (few ps some)
 
@@ -225,6 +226,19 @@ module _ (bs : List ℕ) (bytes : (k : ℕ) → getD bs k 0 < 256) where
           → ((checkOf d ps ≡ given tt) × (recordBytes d ps ≡ bs)) ⊎ ((checkIn oldEm d ps ≡ given tt) × (oldRecordBytes d ps ≡ bs))
       go (inl a) = inl (a .fine, again-by a)
       go (inr a) = inr (a .fine, again-by a)
+
+  pub written-again : length bs ≡ recordLength → (d : Disk) (ps : List Point) → readOf bs ≡ given (d, ps)
+      → (checkOf d ps ≡ given tt) × (recordBytes d ps ≡ bs)
+  written-again e d ps h =
+      let a = accepted-by sWidth em bs d ps (subst (λ (b : Bool). readAs b bs ≡ given (d, ps)) (not-old bs e) h) in
+      (a .fine, again-by a)
+
+  pub old-again : length bs ≡ oldRecordLength → (d : Disk) (ps : List Point) → readOf bs ≡ given (d, ps)
+      → (checkIn oldEm d ps ≡ given tt) × (oldRecordBytes d ps ≡ bs)
+  old-again e d ps h =
+      let is-old = eq-eqb (length bs) oldRecordLength e in
+      let a = accepted-by oldSWidth oldEm bs d ps (subst (λ (b : Bool). readAs b bs ≡ given (d, ps)) is-old h) in
+      (a .fine, again-by a)
 
 -- ---- equal records
 

@@ -2,6 +2,7 @@
 --
 --   loader, sheet, engine, radius, preview, writer, reader, append, through, traced, hull : the calls
 use mathlib.Core.Path.{_≡_, refl, sym, ap, ap₂, _∙_, subst}
+use mathlib.Core.Logic.{inl, inr}
 use mathlib.Core.Bool.{Bool, true, false, not, true≢false}
 use mathlib.Core.List.{List, [], _∷_}
 use Prim.Native.Nat.{ℕ, suc, _*_, _/_, _%_, _≤_, _<_}
@@ -14,8 +15,9 @@ use lib.Signed.{leZ}
 use Rattle.answers.specs.Outcome.{Outcome, given, refuseIf, andThen}
 use Rattle.integers.proofs.Tests.{both, test-true, between-low, between-high}
 use Rattle.geometry.specs.declared.Point.{Point}
+use Rattle.geometry.specs.declared.Limits.{Limits}
 use Rattle.geometry.specs.Plane.{Disk}
-use Rattle.geometry.specs.EmBox.{em, Inside, inEmBox, allInEmBox}
+use Rattle.geometry.specs.EmBox.{em, oldEm, Inside, inEmBox, allInEmBox}
 use Rattle.geometry.specs.Points.{points}
 use Rattle.geometry.proofs.PointLists.{firstPoints-all, length-firstPoints}
 use Rattle.description.specs.Description.{linesRead, loadOf}
@@ -38,17 +40,21 @@ use Rattle.traced_points.specs.Traced.{tolerated, fault, firstFault, tracedOf}
 use Rattle.hull.specs.Chains.{hullOf}
 use Rattle.hull_points.specs.Reducing.{reduceOf}
 use Rattle.hull_points.proofs.Answers.{refused-answer, given-answer}
-use Rattle.validity.specs.Valid.{valid}
+use Rattle.validity.specs.Valid.{validIn, valid}
+use Rattle.validity.proofs.ValidLaws.{valid-points, counted}
 use Rattle.belonging.specs.Belonging.{belongs, Belong}
-use Rattle.disk_checks.specs.Checks.{checkOf}
+use Rattle.disk_checks.specs.Checks.{checkIn, checkOf}
 use Rattle.radius.specs.Radius.{wholeRadius, radiusOf}
-use Rattle.record_writer.specs.Layout.{recordLength}
+use Rattle.record_writer.specs.Layout.{sWidth, oldSWidth, recordLength, oldRecordLength, lengthBy}
+use Rattle.record_writer.specs.Bytes.{recordBy, recordBytes, oldRecordBytes}
+use Rattle.record_writer.proofs.ByteLaws.{recordBy-length}
 use Rattle.record_writer.specs.Writing.{writeOf}
-use Rattle.record_reader.specs.Reading.{diskIn, pointsIn, countIn, heldOf, readOf}
+use Rattle.record_reader.specs.Reading.{diskIn, pointsIn, countIn, heldIn, readAs, readOf}
 use Rattle.record_reader.proofs.RoundTrip.{Read, read-fields, rewritten}
+use Rattle.record_reader.proofs.RecordFields.{Wide, wide-em, wide-old}
 use Rattle.preview.specs.Preview.{floats, previewOf}
 use Rattle.rules.specs.Row.{Rule, _unless_, eachOf, GoesBy}
-use Rattle.rules.specs.Rules.{Bytes, IsRecord, Names, loaderRow, sheetRow, engineRow, writerRow, readerRow, diskRow, appendRow, throughRow}
+use Rattle.rules.specs.Rules.{Bytes, RecordableIn, Recordable, IsRecordOf, current, old, IsRecord, Names, loaderRow, sheetRow, engineRow, writerRow, readerRow, diskRow, appendRow, throughRow}
 use Rattle.rules.specs.Rules.{pointRow, tracedRow}
 use Rattle.rules.proofs.RowLaws.{row-end, row-step, row-then, row-through, row-none, row-first}
 use Rattle.geometry.proofs.EmBox.{inside, inside-test, all-inside, inside-all}
@@ -174,7 +180,7 @@ traced l =
 -- the checks of a disk and its points
 pub checks : (d : Disk) (ps : List Point) → GoesBy (diskRow d ps) (checkOf d ps)
 checks d ps =
-    row-step (not (valid d ps)) 7 (λ h r. fails h (recordable-valid d ps r)) (λ h. valid-recordable d ps (not-false (valid d ps) h)) (λ r.
+    row-step (not (valid d ps)) 7 (λ h r. fails h (recordable-valid em d ps r)) (λ h. valid-recordable em d ps (not-false (valid d ps) h)) (λ r.
     row-step (not (belongs d ps)) 15 (λ h b. fails h (belong-belongs d ps b)) (λ h. belongs-belong d ps (not-false (belongs d ps) h)) (λ b.
     row-end tt))
 
@@ -190,66 +196,102 @@ writer d ps b =
     row-step (ltb (length b) recordLength) 8 (λ h. above (ltb-true (length b) recordLength h)) (ltb-false (length b) recordLength)
     (λ room. checks d ps)
 
--- the reader's checks
-module _ (bs : List ℕ) where
-  abbrev as-long : Bool
-  as-long = eqb (length bs) recordLength
+-- the reader's checks, of a record with an S of w bytes by the limits l
+module _ {w : ℕ} {l : Limits} (fit : Wide w l) (bs : List ℕ) (long : length bs ≡ lengthBy w) where
+  abbrev d : Disk
+  d = diskIn w bs
+
+  abbrev ps : List Point
+  ps = pointsIn w bs
 
   abbrev agree : Bool
-  agree = eqb (countIn bs) (length (pointsIn bs))
+  agree = eqb (countIn w bs) (length ps)
 
-  abbrev fine : Bool
-  fine = valid (diskIn bs) (pointsIn bs)
+  -- bytes of this length that are a record are one of this form
+  abbrev Form : Type 0
+  Form = (r : IsRecord bs) → RecordableIn l (r .disk) (r .support) × (bs ≡ recordBy w (r .disk) (r .support))
 
-  abbrev fits-disk : Bool
-  fits-disk = belongs (diskIn bs) (pointsIn bs)
+  -- and the other way round
+  abbrev Formed : Type 0
+  Formed = RecordableIn l d ps → bs ≡ recordBy w d ps → IsRecordOf d ps bs
 
-  -- in bytes that are a record stand its disk, its points and their count
-  stands : (r : IsRecord bs) → Read bs (r .disk) (r .support) (length (r .support))
-  stands r =
-      subst (λ (cs : List ℕ). Read cs (r .disk) (r .support) (length (r .support))) (sym (r .bytes))
-      (read-fields (r .disk) (r .support) (recordable-valid (r .disk) (r .support) (r .recordable)))
+  module _ (form : Form) where
+    -- in bytes that are a record stand its disk, its points and their count
+    stands : (r : IsRecord bs) → Read w bs (r .disk) (r .support) (length (r .support))
+    stands r =
+        let (k, e) = form r in
+        subst (λ (cs : List ℕ). Read w cs (r .disk) (r .support) (length (r .support))) (sym e)
+        (read-fields fit (r .disk) (r .support) (recordable-valid l (r .disk) (r .support) k))
 
-  agreeing : IsRecord bs → agree ≡ true
-  agreeing r = let s = stands r in eq-eqb (countIn bs) (length (pointsIn bs)) (s .count ∙ ap length (sym (s .points)))
+    agreeing : IsRecord bs → agree ≡ true
+    agreeing r = let s = stands r in eq-eqb (countIn w bs) (length ps) (s .count ∙ ap length (sym (s .points)))
 
-  is-fine : IsRecord bs → fine ≡ true
-  is-fine r = let s = stands r in ap₂ valid (s .disk) (s .points) ∙ recordable-valid (r .disk) (r .support) (r .recordable)
+    is-fine : IsRecord bs → validIn l d ps ≡ true
+    is-fine r = let s = stands r in ap₂ (validIn l) (s .disk) (s .points) ∙ recordable-valid l (r .disk) (r .support) (form r .0)
 
-  is-record : Bytes bs → length bs ≡ recordLength → agree ≡ true → fine ≡ true → IsRecord bs
-  is-record bytes long same v = record {
-    disk = diskIn bs;
-    support = pointsIn bs;
-    recordable = valid-recordable (diskIn bs) (pointsIn bs) v;
-    bytes = sym (rewritten bs bytes long (eqb-true (countIn bs) (length (pointsIn bs)) same));
-  }
+    is-record : Formed → Bytes bs → agree ≡ true → validIn l d ps ≡ true → IsRecord bs
+    is-record formed bytes same v = record {
+      disk = d;
+      support = ps;
+      is-record = formed (valid-recordable l d ps v) (sym (rewritten bs bytes w long (eqb-true (countIn w bs) (length ps) same)));
+    }
 
-  -- the points that stand in the bytes belong to the disk that does
-  abbrev Fitting : Type 0
-  Fitting = (r : IsRecord bs) → Belong (r .disk) (r .support)
+    -- the points that stand in the bytes belong to the disk that does
+    abbrev Fitting : Type 0
+    Fitting = (r : IsRecord bs) → Belong (r .disk) (r .support)
 
-  fitting : fits-disk ≡ true → Fitting
-  fitting h r = let s = stands r in belongs-belong (r .disk) (r .support) (sym (ap₂ belongs (s .disk) (s .points)) ∙ h)
+    fitting : belongs d ps ≡ true → Fitting
+    fitting h r = let s = stands r in belongs-belong (r .disk) (r .support) (sym (ap₂ belongs (s .disk) (s .points)) ∙ h)
 
-  -- the two checks of 7 behind the length are one rule
-  behind : Bytes bs → length bs ≡ recordLength → (b : Bool) → agree ≡ b
-      → GoesBy (7 unless IsRecord bs ∷ 15 unless Fitting ∷ []) (refuseIf (not b) 7 (heldOf (diskIn bs) (pointsIn bs)))
-  behind bytes long false e =
-      row-step true 7 {rest = heldOf (diskIn bs) (pointsIn bs)} (λ h r. true≢false (sym (agreeing r) ∙ e)) (λ h. absurd (true≢false h))
-      (λ r. absurd (true≢false (sym (agreeing r) ∙ e)))
-  behind bytes long true e =
-      then-value (checkOf (diskIn bs) (pointsIn bs)) (diskIn bs, pointsIn bs)
-      (row-step (not fine) 7 (λ h r. fails h (is-fine r)) (λ h. is-record bytes long e (not-false fine h)) (λ r.
-      row-step (not fits-disk) 15 (λ h k. fails h (belong-belongs (diskIn bs) (pointsIn bs) (own k r))) (λ h. fitting (not-false fits-disk h)) (λ b.
-      row-end tt)))
-    where
-      own : Fitting → IsRecord bs → Belong (diskIn bs) (pointsIn bs)
-      own k r = let s = stands r in subst (λ (c : Disk). Belong c (pointsIn bs)) (sym (s .disk)) (subst (Belong (r .disk)) (sym (s .points)) (k r))
+    -- the two checks of 7 behind the length are one rule
+    behind : Formed → Bytes bs → (b : Bool) → agree ≡ b
+        → GoesBy (7 unless IsRecord bs ∷ 15 unless Fitting ∷ []) (refuseIf (not b) 7 (heldIn l d ps))
+    behind formed bytes false e =
+        row-step true 7 {rest = heldIn l d ps} (λ h r. true≢false (sym (agreeing r) ∙ e)) (λ h. absurd (true≢false h))
+        (λ r. absurd (true≢false (sym (agreeing r) ∙ e)))
+    behind formed bytes true e =
+        then-value (checkIn l d ps) (d, ps)
+        (row-step (not (validIn l d ps)) 7 (λ h r. fails h (is-fine r)) (λ h. is-record formed bytes e (not-false (validIn l d ps) h)) (λ r.
+        row-step (not (belongs d ps)) 15 (λ h k. fails h (belong-belongs d ps (own k r))) (λ h. fitting (not-false (belongs d ps) h)) (λ b.
+        row-end tt)))
+      where
+        own : Fitting → IsRecord bs → Belong d ps
+        own k r = let s = stands r in subst (λ (c : Disk). Belong c ps) (sym (s .disk)) (subst (Belong (r .disk)) (sym (s .points)) (k r))
 
-  pub reader : Bytes bs → GoesBy (readerRow bs) (readOf bs)
-  reader bytes =
-      row-step (not as-long) 7 (λ h e. fails h (eq-eqb (length bs) recordLength e)) (λ h. eqb-true (length bs) recordLength (not-false as-long h)) (λ long.
-      behind bytes long agree refl)
+-- a record is as long as its form says
+form-long : (w : ℕ) (l : Limits) (d : Disk) (ps : List Point) (bs : List ℕ) → RecordableIn l d ps → bs ≡ recordBy w d ps → length bs ≡ lengthBy w
+form-long w l d ps bs r e = ap length e ∙ recordBy-length w d ps (counted l ps (valid-points l d ps (recordable-valid l d ps r)))
+
+current-form : (bs : List ℕ) (long : length bs ≡ recordLength) → Form wide-em bs long
+current-form bs long r = go (r .is-record)
+  where
+    go : IsRecordOf (r .disk) (r .support) bs → Recordable (r .disk) (r .support) × (bs ≡ recordBytes (r .disk) (r .support))
+    go (current k e) = (k, e)
+    go (old k e) = absurd (true≢false (sym (eq-eqb recordLength oldRecordLength (sym long ∙ form-long oldSWidth oldEm (r .disk) (r .support) bs k e))))
+
+old-form : (bs : List ℕ) (long : length bs ≡ oldRecordLength) → Form wide-old bs long
+old-form bs long r = go (r .is-record)
+  where
+    go : IsRecordOf (r .disk) (r .support) bs → RecordableIn oldEm (r .disk) (r .support) × (bs ≡ oldRecordBytes (r .disk) (r .support))
+    go (old k e) = (k, e)
+    go (current k e) = absurd (true≢false (sym (eq-eqb oldRecordLength recordLength (sym long ∙ form-long sWidth em (r .disk) (r .support) bs k e))))
+
+pub reader : (bs : List ℕ) → Bytes bs → GoesBy (readerRow bs) (readOf bs)
+reader bs bytes = by-length (eqb (length bs) oldRecordLength) refl
+  where
+    by-length : (b : Bool) → eqb (length bs) oldRecordLength ≡ b → GoesBy (readerRow bs) (readAs b bs)
+    by-length true e =
+        let long = eqb-true (length bs) oldRecordLength e in
+        row-step (not (eqb (length bs) oldRecordLength)) 7 (λ h k. fails h e) (λ h. inr long) (λ k.
+        behind wide-old bs long (old-form bs long) old bytes (agree wide-old bs long) refl)
+    by-length false e =
+        let other : length bs ≡ oldRecordLength → ⊥ = λ k. true≢false (sym (eq-eqb (length bs) oldRecordLength k) ∙ e) in
+        row-step (not (eqb (length bs) recordLength)) 7 (λ h k. elim k [ inl l ↦ fails h (eq-eqb (length bs) recordLength l) | inr l ↦ other l ])
+        (λ h. inl (eqb-true (length bs) recordLength (not-false (eqb (length bs) recordLength) h))) (λ k.
+        elim k [
+          | inl long ↦ behind wide-em bs long (current-form bs long) current bytes (agree wide-em bs long) refl
+          | inr l ↦ absurd (other l)
+        ])
 
 pub radius : (d : Disk) (ps : List Point) → GoesBy (diskRow d ps) (radiusOf d ps)
 radius d ps = then-value (checkOf d ps) (wholeRadius d) (checks d ps)

@@ -6,17 +6,18 @@
 --   byLine ls          == the rule of the lines: all good, and at most 4,096 points; the first faulty line decides
 --   partEnd s i        == where part i of the sheet s ends
 --   PairsInOrder s     == the rules of a sheet's pairs
---   Recordable d ps    == the disk d and the points ps are such as a valid record holds
+--   RecordableIn l d ps == the disk d and the points ps are such as a valid record by the limits l holds; Recordable d ps: by those of the em
 --   Bytes bs           == bs is a list of bytes
---   IsRecord bs        == bs is the record of such a disk and points
+--   IsRecordOf d ps bs == bs is the record of such a disk and points: of 53 bytes, or of 45 by the old limits; IsRecord bs: of some
 --   Names p c          == the drawing program's point p is c: its whole numbers are c's, or its floats stand for them exactly
 --   pointRow s         == the rules of a traced point: 14, then 3
 --   loaderRow, sheetRow, engineRow, writerRow, readerRow, diskRow, appendRow, throughRow, tracedRow == the rows; radius and preview have diskRow, the
 --                         call that reduces a list to its hull has engineRow
 --
--- `Inside em p`: x is from 0 to 1000 and y from −250 to 750 (geometry/specs/EmBox.antt, which has every limit of points and disks).
+-- `Inside em p`: x is from 0 to 2048 and y from −512 to 1536 (geometry/specs/EmBox.antt, which has every limit of points and disks).
 -- `Belong d ps`: the points ps belong to the disk d (belonging/specs/Belonging.antt).
 use mathlib.Core.Path.{_≡_}
+use mathlib.Core.Logic.{_⊎_}
 use mathlib.Core.List.{List, [], _∷_, _++_, List·Memᴰ}
 use Prim.Native.Nat.{ℕ, suc, _+_, _%_, _≤_, _<_}
 use lib.IntN.{ℤ, pos}
@@ -24,8 +25,9 @@ use lib.ListN.{length, getD}
 use Rattle.divisors.specs.Divisor.{Reduced}
 use Rattle.integers.specs.Order.{_≼_}
 use Rattle.geometry.specs.declared.Point.{Point}
+use Rattle.geometry.specs.declared.Limits.{Limits}
 use Rattle.geometry.specs.Plane.{Disk}
-use Rattle.geometry.specs.EmBox.{em, Inside, WithinLimits}
+use Rattle.geometry.specs.EmBox.{em, oldEm, Inside, WithinLimits}
 use Rattle.geometry.specs.Points.{points}
 use Rattle.point_lists.specs.Sets.{In}
 use Rattle.point_lists.specs.Rising.{Rising}
@@ -41,8 +43,8 @@ use Rattle.drawn_points.specs.declared.DrawnPoint.{DrawnPoint}
 use Rattle.drawn_points.specs.declared.DrawnPoint.the-variants.{Whole, Drawn}
 use Rattle.sheet.specs.Sheet.{count, directoryEnd, pair}
 use Rattle.belonging.specs.Belonging.{Belong}
-use Rattle.record_writer.specs.Layout.{recordLength}
-use Rattle.record_writer.specs.Bytes.{recordBytes}
+use Rattle.record_writer.specs.Layout.{recordLength, oldRecordLength}
+use Rattle.record_writer.specs.Bytes.{recordBytes, oldRecordBytes}
 use Rattle.rules.specs.Row.{Rule, _unless_, DueFirst, eachOf}
 
 -- ---- descriptions
@@ -166,39 +168,46 @@ appendRow p l n =
 -- ---- disks, points and records
 
 -- "A valid record has its corners so written, E from 1 to 2,000,000, the divisor rule, the centre in the em box, S at most 500,000 × E², and
--- corners in the em box": one to three, which rise strictly
-pub record Recordable (d : Disk) (ps : List Point) : Type 0 where
+-- corners in the em box": one to three, which rise strictly; by other figures than these where the limits are others
+pub record RecordableIn (l : Limits) (d : Disk) (ps : List Point) : Type 0 where
   pub e-some : 1 ≤ d .e
-  -- E at most 2,000,000, the centre in the em box, S at most 500,000 × E²
-  pub within : WithinLimits em d
+  -- E at most its limit, the centre in the box, S at most its limit × E²
+  pub within : WithinLimits l d
   -- no whole number above 1 divides X, Y and E all together
   pub lowest : Reduced (d .x) (d .y) (d .e)
   pub some : 1 ≤ length ps
   pub most : length ps ≤ 3
   pub rises : Rising ps
-  pub in-box : (p : Point) → In p ps → Inside em p
+  pub in-box : (p : Point) → In p ps → Inside l p
+
+abbrev pub Recordable : Disk → List Point → Type 0
+Recordable d ps = RecordableIn em d ps
 
 abbrev pub Bytes : List ℕ → Type 0
 Bytes bs = (i : ℕ) → getD bs i 0 < 256
 
+-- "the record has 53. The reader still takes 45-byte records by the old limits" (02, item 10)
+pub data IsRecordOf (d : Disk) (ps : List Point) (bs : List ℕ) : Type 0 where
+  current : Recordable d ps → bs ≡ recordBytes d ps → IsRecordOf d ps bs
+  old : RecordableIn oldEm d ps → bs ≡ oldRecordBytes d ps → IsRecordOf d ps bs
+
 pub record IsRecord (bs : List ℕ) : Type 0 where
   pub disk : Disk
   pub support : List Point
-  pub recordable : Recordable disk support
-  pub bytes : bs ≡ recordBytes disk support
+  pub is-record : IsRecordOf disk support bs
 
 -- "Reader, cutting radius, preview: 7."; "15 when it fails, after 7" (02, item 9)
 abbrev pub diskRow : Disk → List Point → List Rule
 diskRow d ps = 7 unless Recordable d ps ∷ 15 unless Belong d ps ∷ []
 
--- "Writer: 8, 7."; a record has 45 bytes (record_writer/specs/Layout.antt)
+-- "Writer: 8, 7."; "the writer writes 53 only, into a buffer of at least 53" (02, item 10)
 abbrev pub writerRow : Disk → List Point → List ℕ → List Rule
 writerRow d ps buffer = 8 unless (recordLength ≤ length buffer) ∷ diskRow d ps
 
 -- "A count that disagrees with the repeats is refused as 7, as is any other length" (02, item 4): bytes with such a count are no record
 abbrev pub readerRow : List ℕ → List Rule
 readerRow bs =
-    7 unless (length bs ≡ recordLength)
+    7 unless ((length bs ≡ recordLength) ⊎ (length bs ≡ oldRecordLength))
     ∷ 7 unless IsRecord bs
     ∷ 15 unless ((r : IsRecord bs) → Belong (r .disk) (r .support))
     ∷ []

@@ -4,7 +4,7 @@
 --   valid-wider                : what is valid by narrower limits is valid by wider ones
 --   narrower-self              : limits keep to themselves
 --   old-narrower               : the limits of records of 45 bytes keep to those of the em
-use mathlib.Core.Path.{_≡_, refl}
+use mathlib.Core.Path.{_≡_}
 use mathlib.Core.Bool.{true}
 use mathlib.Core.List.{List, [], _∷_}
 use Prim.Native.Nat.{ℕ}
@@ -12,14 +12,13 @@ use native.Mathlib.Nat.{le-refl, le-trans, mul-le-mul}
 use lib.Dec.{lit≤}
 use lib.IntN.{ℤ, pos, _*ℤ_}
 use Rattle.integers.specs.Order.{_≼_}
-use Rattle.integers.proofs.Tests.{first, rest, both}
 use Rattle.integers.proofs.Order.{≤-refl, ≤-trans, nonneg, le, nn, _⊠_}
 use Rattle.integers.proofs.Ring.{poly}
 use Rattle.geometry.specs.declared.Point.{Point}
 use Rattle.geometry.specs.declared.Limits.{Limits}
-use Rattle.geometry.specs.EmBox.{em, oldEm, inBox, allInBox, WithinLimits}
+use Rattle.geometry.specs.EmBox.{em, oldEm, allInBox, WithinLimits}
 use Rattle.geometry.specs.Plane.{Disk}
-use Rattle.geometry.proofs.EmBox.{inside, inside-test}
+use Rattle.geometry.proofs.EmBox.{all-in, in-all}
 use Rattle.validity.specs.Narrow.{Narrower}
 use Rattle.validity.specs.Valid.{validIn}
 use Rattle.validity.proofs.ValidLaws.{limits, valid-disk, valid-points, counted, rises, boxed, valid-lowest, valid-within, disk-valid, points-valid, both-valid}
@@ -38,20 +37,14 @@ module _ {l m : Limits} (w : Narrower l m) where
     y-high = ≤-trans (k .y-high) (scaled (l .top) (m .top) (d .e) (w .top-within));
   }
 
-  point-wider : (p : Point) → inBox l p ≡ true → inBox m p ≡ true
-  point-wider p h =
-      let i = inside l p h in
-      inside-test m p (record {
+  points-wider : (ps : List Point) → allInBox l ps ≡ true → allInBox m ps ≡ true
+  points-wider ps h = in-all m ps (λ p k. let i = all-in l ps h p k in
+      record {
         from-left = ≤-trans (w .left-within) (i .from-left);
         to-right = ≤-trans (i .to-right) (w .right-within);
         from-foot = ≤-trans (w .foot-within) (i .from-foot);
         to-top = ≤-trans (i .to-top) (w .top-within);
       })
-
-  points-wider : (ps : List Point) → allInBox l ps ≡ true → allInBox m ps ≡ true
-  unfolding allInBox
-  points-wider [] h = refl
-  points-wider (p ∷ ps) h = both (point-wider p (first (inBox l p) (allInBox l ps) h)) (points-wider ps (rest (inBox l p) (allInBox l ps) h))
 
   pub valid-wider : (d : Disk) (ps : List Point) → validIn l d ps ≡ true → validIn m d ps ≡ true
   valid-wider d ps h =
