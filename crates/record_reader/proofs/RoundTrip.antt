@@ -4,9 +4,10 @@
 --   read-by           : a record with an S of w bytes is answered by the checks of these
 --   read-held, old-held       : the record of a valid disk and its points, of 53 bytes and of 45, is answered by the checks of these
 --   read-written, old-written : where they pass them, it is read as them
---   read-miscounted   : the bytes of a valid disk and its points with another count are refused
+--   read-miscounted, old-miscounted : the bytes of a valid disk and its points with another count are refused
 --   count-byte        : the count is the last byte
 --   Accepted, accepted : what the reader accepts has a record's length, and in it stand the disk, the points and their count
+--   read-checked      : what is read passes the checks by the limits of the em
 --   rewritten         : bytes of a record's length with the right count are the record of what stands in them
 --   record-form       : bytes that the reader accepts are the record of 53 bytes or of 45 of a disk and points that pass its checks
 --   written-again, old-again : so they are by their length
@@ -33,7 +34,7 @@ use Rattle.geometry.specs.EmBox.{em, oldEm, inBox, allInBox}
 use Rattle.geometry.specs.Order.{before}
 use Rattle.validity.specs.Valid.{oneToThree, validIn, valid}
 use Rattle.disk_checks.specs.Checks.{checkIn, checkOf}
-use Rattle.disk_checks.proofs.CheckLaws.{passed-in, passed}
+use Rattle.disk_checks.proofs.CheckLaws.{passed-in, passed, passed-wider}
 use Rattle.point_lists.specs.Rising.{rising}
 use Rattle.record_writer.specs.Layout.{sWidth, oldSWidth, recordLength, oldRecordLength, lengthBy, pointWidth, firstAt, secondAt, thirdAt, countWidth, countAt}
 use Rattle.record_writer.specs.Bytes.{diskBytes, pointsBytes, madeThree, recordBy, recordBytes, oldRecordBytes}
@@ -169,6 +170,13 @@ read-miscounted d ps v n byte other =
     ap (λ (last : List ℕ). readOf (diskBytes sWidth d ++ pointsBytes (madeThree ps) ++ last)) (sym (one-byte n byte))
     ∙ rw (not-old (counting sWidth d ps n) (counting-length sWidth d ps n (some wide-em d ps v))) (miscounted wide-em d ps v n byte other)
 
+pub old-miscounted : (d : Disk) (ps : List Point) → validIn oldEm d ps ≡ true → (n : ℕ) → n < 256 → (n ≡ length ps → ⊥)
+    → readOf (diskBytes oldSWidth d ++ pointsBytes (madeThree ps) ++ (n ∷ [])) ≡ refused 7
+old-miscounted d ps v n byte other =
+    let bs = counting oldSWidth d ps n in
+    ap (λ (last : List ℕ). readOf (diskBytes oldSWidth d ++ pointsBytes (madeThree ps) ++ last)) (sym (one-byte n byte))
+    ∙ rw (eq-eqb (length bs) oldRecordLength (counting-length oldSWidth d ps n (some wide-old d ps v))) (miscounted wide-old d ps v n byte other)
+
 -- ---- bytes that the reader accepts
 
 pub count-byte : (w : ℕ) (bs : List ℕ) → countIn w bs ≡ getD bs (countAt w) 0
@@ -205,6 +213,9 @@ accepted bs d ps h = go (eqb (length bs) oldRecordLength) h
     go : (b : Bool) → readAs b bs ≡ given (d, ps) → Accepted sWidth em bs d ps ⊎ Accepted oldSWidth oldEm bs d ps
     go true k = inr (accepted-by oldSWidth oldEm bs d ps k)
     go false k = inl (accepted-by sWidth em bs d ps k)
+
+pub read-checked : (bs : List ℕ) (d : Disk) (ps : List Point) → readOf bs ≡ given (d, ps) → checkOf d ps ≡ given tt
+read-checked bs d ps h = elim (accepted bs d ps h) [ inl a ↦ a .fine | inr a ↦ passed-wider d ps (a .fine) ]
 
 -- the bytes that the reader is given are those of a lent slice, each below 256
 module _ (bs : List ℕ) (bytes : (k : ℕ) → getD bs k 0 < 256) where

@@ -9,12 +9,14 @@ use mathlib.Core.Path.{_≡_, refl, sym, _∙_, ap, ap₂, subst}
 use mathlib.Core.Logic.{_⊎_, inl, inr}
 use mathlib.Core.List.{List, [], _∷_, _++_}
 use Prim.Native.Nat.{ℕ}
+use native.Mathlib.Nat.{le-of-eq}
 use native.Mathlib.Omega.{arith}
 use borrow.Author.Tests.{le-ltb}
 use lib.IntN.{ℤ}
 use lib.ListN.{length}
 use Rattle.answers.specs.Outcome.{given, refused}
 use Rattle.geometry.specs.declared.Point.{Point}
+use Rattle.geometry.specs.EmBox.{em}
 use Rattle.geometry.specs.Plane.{Disk}
 use Rattle.geometry.specs.Points.{flat}
 use Rattle.geometry.proofs.EmBox.{inside-all}
@@ -32,7 +34,7 @@ use Rattle.disk_checks.specs.Checks.{checkOf}
 use Rattle.record_writer.specs.Layout.{recordLength}
 use Rattle.record_writer.specs.Bytes.{recordBytes}
 use Rattle.record_reader.specs.Reading.{readOf}
-use Rattle.record_reader.proofs.RoundTrip.{read-held, accepted, written-again}
+use Rattle.record_reader.proofs.RoundTrip.{read-held, read-checked, written-again}
 use Rattle.letter.proofs.ValidAnswer.{checked-enclosure}
 use Rattle.letter.proofs.Whole.{enclosed-flat}
 use Rattle.rules.specs.Rules.{Bytes, Recordable}
@@ -60,7 +62,7 @@ fails : (d : Disk) (ps : List Point) → Recordable d ps → (Belong d ps → �
 fails d ps r n =
     let c : checkOf d ps ≡ refused 15 = calls.checks d ps .refusal 15 .1 (inr (r, inl (n, refl))) in
     record {
-      reader = read-held d ps (recordable-valid d ps r) ∙ rw c;
+      reader = read-held d ps (recordable-valid em d ps r) ∙ rw c;
       writer = λ b h. let long = le-ltb (length b) recordLength h in (rw (long, c), rw (long, c));
       radius = rw c;
       preview = rw c;
@@ -84,15 +86,15 @@ taken d ps r b = record {
 }
 
 named : (bs : List ℕ) (d : Disk) (ps : List Point) → readOf bs ≡ given (d, ps) → Fixing d ps
-named bs d ps h = let (r, b) = checked-rules d ps (accepted bs d ps h .fine) in taken d ps r b
+named bs d ps h = let (r, b) = checked-rules d ps (read-checked bs d ps h) in taken d ps r b
 
-own-record : (bs : List ℕ) (d : Disk) (ps : List Point) → readOf bs ≡ given (d, ps) → Bytes bs
+own-record : (bs : List ℕ) (d : Disk) (ps : List Point) → readOf bs ≡ given (d, ps) → Bytes bs → length bs ≡ recordLength
     → (w : WorkedOut (flat ps) bs) × (w .answer .disk ≡ d) × (w .answer .support ≡ ps)
-own-record bs d ps h bytes =
+own-record bs d ps h bytes long =
     let f = named bs d ps h in
     let e = f .answer in
-    let done = written (e .disk) (e .support) bs (checked-enclosure (flat ps) e (f .accepted)) (omega (arith, accepted bs d ps h .long)) in
-    let bytes-are = filled (e .disk) (e .support) bs done ∙ ap₂ recordBytes (f .disk-is) (f .support-is) ∙ written-again bs bytes d ps h .1 in
+    let done = written (e .disk) (e .support) bs (checked-enclosure (flat ps) e (f .accepted)) (le-of-eq (sym long)) in
+    let bytes-are = filled (e .disk) (e .support) bs done ∙ ap₂ recordBytes (f .disk-is) (f .support-is) ∙ written-again bs bytes long d ps h .1 in
     (record { answer = e; accepted = f .accepted; buffer = bs; written = done; filled = sym bytes-are }, f .disk-is, f .support-is)
 
 pub fitting-points : FittingPoints
@@ -101,16 +103,16 @@ fitting-points = record {
   another-or-none = left-out;
   none = λ d. none-smallest;
   one-disk = λ d c ps b k. smallest-same (same-refl ps) (same-refl []) (b .own) (k .own);
-  one = λ d a r. tested-one d a (recordable-valid d (a ∷ []) r);
-  two = λ d a b r. tested-two d a b (recordable-valid d (a ∷ b ∷ []) r);
-  three = λ d a b c r. tested-three d a b c (recordable-valid d (a ∷ b ∷ c ∷ []) r);
+  one = λ d a r. tested-one d a (recordable-valid em d (a ∷ []) r);
+  two = λ d a b r. tested-two d a b (recordable-valid em d (a ∷ b ∷ []) r);
+  three = λ d a b c r. tested-three d a b c (recordable-valid em d (a ∷ b ∷ c ∷ []) r);
   fails = fails;
   engine = λ l e h. checked-rules (e .disk) (e .support) (checked-enclosure l e h) .1;
   letter = letter;
   description = λ t l b a h.
       let s = steps t l b a h in ap readOf (s .filled-with) ∙ demand-two .records .read-back (a .disk-given) (a .support) b (s .done);
-  records = λ bs bytes d ps. (
-    λ h. own-record bs d ps h bytes,
+  records = λ bs bytes long d ps. (
+    λ h. own-record bs d ps h bytes long,
     λ (w, same, points). letter (flat ps) bs w ∙ ap₂ (λ (c : Disk) (qs : List Point). given (c, qs)) same points,
   );
   taken = taken;

@@ -39,7 +39,7 @@ pub record ChosenPoints : Type 0 where
   pub twice : (l : List ℤ) (p : Point) → throughOf l (Two p p) ≡ throughOf l (One p)
   -- whichever is named first
   pub exchanged : (l : List ℤ) (p q : Point) → throughOf l (Two p q) ≡ throughOf l (Two q p)
-  -- "X, Y and E obey the divisor rule, and E at most 2,000,000"
+  -- "X, Y and E obey the divisor rule", and E at most 8,388,608 (item 10)
   pub lowest : (l : List ℤ) (c : Chosen) (d : Disk) → throughOf l c ≡ given d → Reduced (d .x) (d .y) (d .e)
   pub e-some : (l : List ℤ) (c : Chosen) (d : Disk) → throughOf l c ≡ given d → 1 ≤ d .e
-  pub e-most : (l : List ℤ) (c : Chosen) (d : Disk) → throughOf l c ≡ given d → d .e ≤ 2000000
+  pub e-most : (l : List ℤ) (c : Chosen) (d : Disk) → throughOf l c ≡ given d → d .e ≤ 8388608

@@ -36,7 +36,7 @@ use Rattle.claims.specs.Demand3.{Answers, worked, WorkedOut}
 
 pub record Unfit (d : Disk) (ps : List Point) : Type 0 where
   pub reader : readOf (recordBytes d ps) ≡ refused 15
-  pub writer : (b : List ℕ) → 45 ≤ length b → (writeOf d ps b ≡ refused 15) × (bufferAfter d ps b ≡ b)
+  pub writer : (b : List ℕ) → 53 ≤ length b → (writeOf d ps b ≡ refused 15) × (bufferAfter d ps b ≡ b)
   pub radius : radiusOf d ps ≡ refused 15
   pub preview : previewOf d ps ≡ refused 15
 
@@ -73,9 +73,9 @@ pub record FittingPoints : Type 0 where
   pub letter : (l : List ℤ) (bs : List ℕ) (w : WorkedOut l bs) → readOf bs ≡ given (w .answer .disk, w .answer .support)
   pub description :
       (t : List ℕ) (l : List ℤ) (b : List ℕ) (a : Answers) → worked t l b ≡ given a → readOf (a .bytes) ≡ given (a .disk-given, a .support)
-  -- and no other does: the bytes that the reader takes are the record worked out for the named points alone
+  -- and no other does: 53 bytes that the reader takes are the record worked out for the named points alone
   pub records :
-      (bs : List ℕ) → Bytes bs → (d : Disk) (ps : List Point)
+      (bs : List ℕ) → Bytes bs → length bs ≡ 53 → (d : Disk) (ps : List Point)
       → (readOf bs ≡ given (d, ps)) ↔ ((w : WorkedOut (flat ps) bs) × (w .answer .disk ≡ d) × (w .answer .support ≡ ps))
   -- "Presses trusted that a record's corners belong to its disk.": a record that is read names a smallest disk and a set that fixes it, with no spare point;
   -- so do the disk and points that the other calls take
