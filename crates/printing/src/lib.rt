@@ -3,6 +3,9 @@ use answers::Refusal;
 use geometry::Disk;
 use geometry::Point;
 use geometry::SupportSet;
+use wide_numbers::Wide;
+ghost use Prim.Native.Nat.{_≤_};
+ghost use lib.ListN.{length};
 
 const STDOUT: i32 = 1;
 
@@ -32,6 +35,34 @@ pub fn print_bits(n: u64) {
     io::print_hex(STDOUT, n, 16);
 }
 
+// Puts the decimal digits of the number, 39 at most, into the text up to place 39, and returns where they begin.
+fn put_digits(w: Wide, text: &mut [u8]) -> usize
+    requires { ⌜ 39 ≤ length (now text) ⌝ }
+    ensures { λ r. ⌜ r ≤ 39 ⌝ }
+{
+    let mut rest = w;
+    let mut i: usize = 39;
+    while 0 < i && !wide_numbers::is_zero(rest) {
+        let t = wide_numbers::tenth(rest);
+        i -= 1;
+        text[i] = b'0' + t.digit as u8;
+        rest = t.rest;
+    }
+    i
+}
+
+// A space and the number.
+fn print_wide(w: Wide) {
+    if w.hi == 0 {
+        print_natural(w.lo);
+    } else {
+        let mut text = [b'0'; 39];
+        let i = put_digits(w, &mut text);
+        print_text(b" ");
+        print_text(&text[i..]);
+    }
+}
+
 fn print_point(p: Point) {
     print_number(geometry::wide(p.x));
     print_number(geometry::wide(p.y));
@@ -42,7 +73,7 @@ pub fn print_disk(d: Disk) {
     print_number(d.x);
     print_number(d.y);
     print_natural(d.e);
-    print_natural(d.s);
+    print_wide(d.s);
     print_text(b"\n");
 }
 

@@ -1,6 +1,7 @@
 // Runs the stored cases (tests/README.md): each names a call and gives it its bytes; what the calls answer and leave is printed.
 use geometry::Disk;
 use geometry::SupportSet;
+use wide_numbers::Wide;
 
 fn print_radius(d: Disk, t: SupportSet) {
     match radius::whole_radius(d, t) {
@@ -60,24 +61,11 @@ fn run_part(bytes: &[u8]) {
     }
 }
 
-// R: a record, through the reader.
-fn run_reader(bytes: &[u8]) {
-    match record_reader::read_record(bytes) {
-        record_reader::Record::Read(d, t) => {
-            printing::print_disk(d);
-            printing::print_support(t);
-            print_radius(d, t);
-            print_preview(d, t);
-        }
-        record_reader::Record::Refused(r) => printing::print_refusal(r),
-    }
-}
-
-// The points stand from byte 34 on.
+// The points stand from byte 42 on.
 fn get_support(bytes: &[u8], count: u8) -> SupportSet {
-    let a = cases::point_at(bytes, 34);
-    let b = cases::point_at(bytes, 38);
-    let c = cases::point_at(bytes, 42);
+    let a = cases::point_at(bytes, 42);
+    let b = cases::point_at(bytes, 46);
+    let c = cases::point_at(bytes, 50);
     if count == 1 {
         return SupportSet::One(a);
     }
@@ -91,7 +79,9 @@ fn get_disk(bytes: &[u8]) -> Disk {
     let x = cases::signed_word_at(bytes, 2);
     let y = cases::signed_word_at(bytes, 10);
     let e = cases::word_at(bytes, 18);
-    let s = cases::word_at(bytes, 26);
+    let hi = cases::word_at(bytes, 26);
+    let lo = cases::word_at(bytes, 34);
+    let s = Wide { hi, lo };
     Disk { x, y, e, s }
 }
 
@@ -101,6 +91,26 @@ fn write(d: Disk, t: SupportSet, buffer: &mut [u8]) {
         record_writer::Written::Refused(r) => printing::print_refusal(r),
     }
     printing::print_count(b"buffer", checksum::of_bytes(buffer));
+}
+
+// What was read, written again.
+fn write_again(d: Disk, t: SupportSet) {
+    let mut buffer = [238u8; 64];
+    write(d, t, &mut buffer);
+}
+
+// R: a record, through the reader; what is read goes through whole radius, preview and writer.
+fn run_reader(bytes: &[u8]) {
+    match record_reader::read_record(bytes) {
+        record_reader::Record::Read(d, t) => {
+            printing::print_disk(d);
+            printing::print_support(t);
+            print_radius(d, t);
+            print_preview(d, t);
+            write_again(d, t);
+        }
+        record_reader::Record::Refused(r) => printing::print_refusal(r),
+    }
 }
 
 // W: the length of a buffer, the number of points, a disk and three points, through cutting radius, preview and writer.

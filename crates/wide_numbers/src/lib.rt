@@ -1,4 +1,4 @@
-// Whole numbers of 128 bits in two words: products, sums and comparisons.
+// Whole numbers of 128 bits in two words: products, sums, comparisons and decimal digits.
 ghost use mathlib.Core.Path.{_≡_};
 ghost use Prim.Native.Nat.{_+_, _*_, _^_, _<_};
 ghost use lib.Dec.{ltb, leb, eqb};
@@ -86,4 +86,25 @@ pub fn is_at_most(a: Wide, b: Wide) -> bool
     ensures { λ r. ⌜ r ≡ leb (value a) (value b) ⌝ }
 {
     !is_below(b, a)
+}
+
+// A number divided by ten.
+pub struct ByTen {
+    pub rest: Wide,
+    pub digit: u64,
+}
+
+// The last decimal digit of a number, and what is left without it.
+pub fn tenth(w: Wide) -> ByTen
+    ensures { λ r. ⌜ (value w ≡ 10 * value (r .rest) + r .digit) × (r .digit < 10) ⌝ }
+{
+    let high = w.hi % 10 * HALF + w.lo / HALF;
+    let low = high % 10 * HALF + w.lo % HALF;
+    let hi = w.hi / 10;
+    let lo = high / 10 * HALF + low / 10;
+    let rest = Wide { hi, lo };
+    ByTen {
+        rest,
+        digit: low % 10,
+    }
 }
