@@ -1,7 +1,7 @@
 //! The edges of documents 01 and 02 by hand: their words, an input that they settle, and what must come out, side by side.
 //!
-//! Each edge is a test of this implementation (below) and a stored case of the product ([`crate::stored`]). What must come out was
-//! worked out by no program.
+//! Each edge is a test of this implementation (below) and a stored case of the product ([`crate::stored`]). What must come out is
+//! taken from neither.
 
 mod belonging;
 mod chosen;

@@ -14,7 +14,7 @@ impl Point {
         Point { x, y }
     }
 
-    /// Whether it is in the em box of the 2,048 units.
+    /// Whether it is in the em box of 2,048 units.
     pub fn is_in_em_box(self) -> bool {
         self.is_in(&EM)
     }

@@ -186,7 +186,7 @@ fn edge_disk(em: &Limits, random: &mut Random) -> Disk {
     let x = random.pick(&[left, 1, right, right + step, left + step]);
     let y = random.pick(&[1, foot, foot + step, top, top + step]);
     let largest = (em.most_square * e * e).unsigned_abs();
-    let s = random.pick(&[0, largest, largest.saturating_add_signed(step), largest.wrapping_add(1 << 64), 1 << 64, u128::MAX]);
+    let s = random.pick(&[0, largest, largest.saturating_add_signed(step), largest + (1 << 64), 1 << 64, u128::MAX]);
     Disk { x, y, e, s }
 }
 

@@ -70,11 +70,18 @@ type Row = (&'static str, Numbers, Points);
 
 /// Valid up to the limits, so that 7 is not given; but the points belong to another disk.
 #[rustfmt::skip]
-const VALID: [Row; 12] = [
+const VALID: [Row; 19] = [
     ("the centre in the em box; S/E² to 2,097,152", (0, -512, 1, 2_097_152), &[(0, -512)]),
     ("the centre in the em box", (2048, 1536, 1, 1), &[(2048, 1536)]),
     ("E goes to 8,388,608 and S/E² to 2,097,152", (17_179_869_183, -4_294_967_295, 8_388_608, 147_573_952_589_676_412_928), &[(0, -512), (2048, 1536)]),
     ("E goes to 8,388,608", (1, 12_884_901_888, 8_388_608, 0), F_POINTS),
+    ("the centre in the em box", (17_179_869_184, 5, 8_388_608, 169), F_POINTS),
+    ("the centre in the em box", (12_288, 5, 6, 169), F_POINTS),
+    ("the centre in the em box", (0, 5, 6, 169), F_POINTS),
+    ("the centre in the em box", (13, -3_072, 6, 169), F_POINTS),
+    ("the centre in the em box", (13, 9_216, 6, 169), F_POINTS),
+    ("S/E² to 2,097,152", (12, 5, 6, 75_497_472), F_POINTS),
+    ("corners in the em box", F, &[(0, -512), (2, 1536), (2048, 0)]),
     ("X, Y (signed); x and y 2 bytes each, signed", (1, -7, 3, 11), &[(3, -9), (3, -8), (4, -512)]),
     // S with a high word, and a low word that is nothing, little or all there is
     ("S .. is held and stored in 16 bytes", (1, 0, 8_388_608, 1 << 63), &[(0, 0)]),
@@ -87,7 +94,7 @@ const VALID: [Row; 12] = [
 ];
 
 #[rustfmt::skip]
-const FAULTY: [Row; 31] = [
+const FAULTY: [Row; 33] = [
     ("E goes to 8,388,608", (12, 5, 8_388_609, 169), F_POINTS),
     ("E goes to 8,388,608", (1, 0, 16_777_216, 0), &[(0, 0)]),
     ("the centre in the em box", (12_289, 5, 6, 169), F_POINTS),
@@ -113,6 +120,8 @@ const FAULTY: [Row; 31] = [
     ("S/E² to 2,097,152: all 16 bytes of S", (0, 0, 1, 1 << 96), &[(0, 0)]),
     ("S/E² to 2,097,152: all 16 bytes of S", (0, 0, 1, 1 << 127), &[(0, 0)]),
     ("S/E² to 2,097,152: all 16 bytes of S", (0, 0, 1, u128::MAX), &[(0, 0)]),
+    ("S/E² to 2,097,152: all 16 bytes of S", (1, 0, 8_388_608, 1 << 127), &[(0, 0)]),
+    ("S/E² to 2,097,152: all 16 bytes of S", (1, 0, 8_388_608, u128::MAX), &[(0, 0)]),
     ("S/E² to 2,097,152: all 16 bytes of S", (7, 7, 1, 1 << 64), &[(7, 7)]),
     ("S/E² to 2,097,152: all 16 bytes of S", (2, 0, 1, (1 << 64) + 4), &[(0, 0), (4, 0)]),
     ("S/E² to 2,097,152: all 16 bytes of S", (2, 0, 1, (1 << 127) + 4), &[(0, 0), (4, 0)]),
@@ -125,7 +134,7 @@ const FAULTY: [Row; 31] = [
 
 /// In records of either form, and for the writer.
 #[rustfmt::skip]
-const FAULTY_BY_ANY_LIMITS: [Row; 26] = [
+const FAULTY_BY_ANY_LIMITS: [Row; 28] = [
     ("E from 1", (12, 5, 0, 0), F_POINTS),
     ("E goes to 8,388,608", (12, 5, u64::MAX as i128, 169), F_POINTS),
     ("No whole number above 1 divides X, Y and E all together", (12, 6, 6, 169), F_POINTS),
@@ -135,6 +144,8 @@ const FAULTY_BY_ANY_LIMITS: [Row; 26] = [
     ("the centre in the em box", (i64::MAX as i128, 5, 6, 169), F_POINTS),
     ("the centre in the em box", (12, i64::MIN as i128, 6, 169), F_POINTS),
     ("S/E² to 2,097,152", (12, 5, 6, u64::MAX as u128), F_POINTS),
+    ("S/E² to 2,097,152", (1, 0, 2_000_000, 1 << 63), &[(0, 0)]),
+    ("S/E² to 2,097,152", (1, 0, 2_000_000, u64::MAX as u128), &[(0, 0)]),
     ("The corners rise strictly", F, &[(2, 3), (2, 3)]),
     ("The corners rise strictly", F, &[(2, 3), (0, 0)]),
     ("The corners rise strictly", F, &[(2, 3), (2, 2)]),
