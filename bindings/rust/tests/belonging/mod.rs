@@ -1,7 +1,7 @@
 //! Disks with points that belong to them and with points that do not, and their records: what the engine gives passes in every call, and
 //! every damage to it gets what the reference says.
 
-use super::{compare_figures, compare_reader, compare_writer, lent, ours};
+use super::{compare_figures, compare_reader, compare_writer, lent, ours, shortened};
 use reference::damage::single_faults;
 use reference::engine::{flat, solve};
 use reference::geometry::{scalar, Disk as ExpectedDisk, Point as ExpectedPoint};
@@ -12,20 +12,21 @@ use std::collections::BTreeMap;
 use volkhidar::*;
 
 /// X, Y, E, S.
-type Numbers = (i128, i128, i128, i128);
+pub type Numbers = (i128, i128, i128, i128);
 
-fn disk_with((x, y, e, s): Numbers) -> ExpectedDisk {
+pub fn disk_with((x, y, e, s): Numbers) -> ExpectedDisk {
     ExpectedDisk { x, y, e, s }
 }
 
 /// The number of the refusal that the four calls have for a disk and its points, or 0: they must answer as the reference does, and all the
 /// same. None where our types cannot hold the numbers.
-fn compare_calls(disk: &ExpectedDisk, set: &[ExpectedPoint], name: &str) -> Option<u8> {
+pub fn compare_calls(disk: &ExpectedDisk, set: &[ExpectedPoint], name: &str) -> Option<u8> {
     let (d, t) = lent(disk, set)?;
     let bytes = record::bytes_of(disk, set);
     compare_figures(d, t, name);
     compare_writer(d, t, 60, name);
     compare_reader(&bytes, name);
+    compare_reader(&shortened(&bytes), &format!("45 bytes, {name}"));
     let mut buffer = [0; RECORD_LENGTH];
     let radius = ours(whole_radius(d, t)).err();
     let others = [ours(preview(d, t)).err(), ours(write_record(d, t, &mut buffer)).err(), ours(read_record(&bytes)).err()];
@@ -107,14 +108,14 @@ fn belongs_by_angles(disk: &ExpectedDisk, set: &[ExpectedPoint]) -> bool {
 
 /// Circles with many whole points, in the middle of the em box and over its edges.
 const CIRCLES: [Numbers; 9] = [
-    (500, 250, 1, 25),
-    (500, 250, 1, 1_105),
-    (500, 250, 1, 27_625),
-    (1_001, 501, 2, 50),
-    (1_001, 501, 2, 5_525 * 2),
-    (1_000, 501, 2, 5_525),
-    (1, -250, 1, 325),
-    (999, 749, 1, 5_525),
+    (1_024, 512, 1, 25),
+    (1_024, 512, 1, 1_105),
+    (1_024, 512, 1, 27_625),
+    (2_049, 1_025, 2, 50),
+    (2_049, 1_025, 2, 5_525 * 2),
+    (2_048, 1_025, 2, 5_525),
+    (1, -512, 1, 325),
+    (2_047, 1_535, 1, 5_525),
     (12, 5, 6, 169),
 ];
 
@@ -140,7 +141,7 @@ fn every_set_of_points_on_one_circle() {
 type Row = (&'static str, Numbers, &'static [(i16, i16)], u8);
 
 #[rustfmt::skip]
-const BY_HAND: [Row; 36] = [
+const BY_HAND: [Row; 43] = [
     ("letter F with a point left out", (12, 5, 6, 169), &[(2, 3), (4, 0)], 15),
     ("letter F with a point left out", (12, 5, 6, 169), &[(0, 0), (4, 0)], 15),
     ("letter F with a point left out", (12, 5, 6, 169), &[(0, 0), (2, 3)], 15),
@@ -164,6 +165,13 @@ const BY_HAND: [Row; 36] = [
     ("letter K with its other two", (500, 250, 1, 500_000), &[(0, 750), (1000, -250)], 0),
     ("letter K with three points", (500, 250, 1, 500_000), &[(0, -250), (0, 750), (1000, 750)], 15),
     ("letter K with its centre", (500, 250, 1, 500_000), &[(500, 250)], 15),
+    ("letter K with S moved", (500, 250, 1, 500_001), &[(0, -250), (1000, 750)], 15),
+    ("opposite corners of the em box", (1024, 512, 1, 2_097_152), &[(0, -512), (2048, 1536)], 0),
+    ("its other two", (1024, 512, 1, 2_097_152), &[(0, 1536), (2048, -512)], 0),
+    ("three corners of the em box", (1024, 512, 1, 2_097_152), &[(0, -512), (0, 1536), (2048, 1536)], 15),
+    ("opposite corners with S moved", (1024, 512, 1, 2_097_151), &[(0, -512), (2048, 1536)], 15),
+    ("one corner of the em box", (2048, 1536, 1, 0), &[(2048, 1536)], 0),
+    ("S above 2^64", (8_577_370_109, 4_290_778_103, 8_388_602, 147_286_249_292_406_046_810), &[(0, -512), (1, 1536), (2048, -509)], 0),
     ("a point and the disk beside it", (0, 0, 1, 0), &[(0, 1)], 15),
     ("a point and a disk around it", (0, 0, 1, 1), &[(0, 0)], 15),
     ("a point and a disk through it", (1, 0, 1, 1), &[(0, 0)], 15),
@@ -173,8 +181,8 @@ const BY_HAND: [Row; 36] = [
     ("obtuse, on a circle with acute sets", (5, 5, 1, 25), &[(0, 5), (2, 1), (2, 9)], 15),
     ("7 first: a common divisor", (12, 6, 6, 169), &[(0, 0), (4, 0)], 7),
     ("7 first: a common divisor, of the disk of a point", (0, 0, 2, 0), &[(0, 0)], 7),
-    ("7 first: S too large", (500, 250, 1, 500_001), &[(0, -250), (1000, 750)], 7),
-    ("7 first: a point outside the em box", (12, 5, 6, 169), &[(0, 0), (4, 0), (1001, 0)], 7),
+    ("7 first: S too large", (1024, 512, 1, 2_097_153), &[(0, -512), (2048, 1536)], 7),
+    ("7 first: a point outside the em box", (12, 5, 6, 169), &[(0, 0), (4, 0), (2049, 0)], 7),
     ("7 first: falling points", (12, 5, 6, 169), &[(4, 0), (0, 0)], 7),
     ("7 first: a point twice", (2, 0, 1, 4), &[(0, 0), (4, 0), (4, 0)], 7),
 ];
@@ -195,21 +203,23 @@ fn the_first_rule_that_is_broken_decides() {
     let two = letters::points(&[(0, 0), (4, 0)]);
     for (numbers, due) in [((12, 5, 6, 169), 15), ((12, 6, 6, 169), 7)] {
         let (d, t) = lent(&disk_with(numbers), &two).unwrap();
-        for room in [0, 44, 45, 60] {
+        for room in [0, 45, 52, 53, 60] {
             let mut buffer = vec![0xEE; room];
             assert_eq!(ours(write_record(d, t, &mut buffer)), Err(if room < RECORD_LENGTH { 8 } else { due }));
             assert_eq!(buffer, vec![0xEE; room]);
         }
-        let bytes = record::bytes_of(&disk_with(numbers), &two);
-        assert_eq!(ours(read_record(&bytes)), Err(due));
-        for length in [0, 44, 46, 90] {
-            let mut bytes = bytes.clone();
-            bytes.resize(length, 0);
-            assert_eq!(ours(read_record(&bytes)), Err(7), "{length} bytes");
-        }
-        for count in [0, 1, 3, 4, 255] {
-            let counted = [&bytes[..44], &[count]].concat();
-            assert_eq!(ours(read_record(&counted)), Err(7), "count {count}");
+        let whole = record::bytes_of(&disk_with(numbers), &two);
+        for bytes in [shortened(&whole), whole] {
+            assert_eq!(ours(read_record(&bytes)), Err(due));
+            for length in [0, 44, 46, 52, 54, 90] {
+                let mut bytes = bytes.clone();
+                bytes.resize(length, 0);
+                assert_eq!(ours(read_record(&bytes)), Err(7), "{length} bytes");
+            }
+            for count in [0, 1, 3, 4, 255] {
+                let counted = [&bytes[..bytes.len() - 1], &[count]].concat();
+                assert_eq!(ours(read_record(&counted)), Err(7), "count {count}");
+            }
         }
     }
 }
@@ -231,7 +241,7 @@ fn disks_about_the_limits() -> Vec<ExpectedDisk> {
 
 #[test]
 fn disks_at_the_limits() {
-    let corners = [(LEFT, FOOT), (LEFT, TOP), (500, 250), (RIGHT, FOOT), (RIGHT, TOP - 1), (RIGHT, TOP)];
+    let corners = [(LEFT, FOOT), (LEFT, TOP), (1_024, 512), (RIGHT, FOOT), (RIGHT, TOP - 1), (RIGHT, TOP)];
     let sets = sets(&letters::points(&corners));
     let mut times = [0; 16];
     for disk in disks_about_the_limits() {
@@ -246,9 +256,9 @@ fn disks_at_the_limits() {
 /// The acute triangle of three points near corners of the em box: E is nearly the largest.
 #[test]
 fn a_disk_with_a_large_e() {
-    let list = letters::points(&[(0, -250), (1000, -247), (1, 750)]);
+    let list = letters::points(&[(0, -512), (2048, -509), (1, 1536)]);
     let answer = solve(&mut flat(&list)).unwrap();
-    assert_eq!((answer.disk.e, answer.support.len()), (1_999_994, 3));
+    assert_eq!((answer.disk.e, answer.support.len()), (8_388_602, 3));
     assert_eq!(compare_calls(&answer.disk, &answer.support, "as it is"), Some(0));
     for (disk, set) in single_faults(&answer.disk, &answer.support, &[]) {
         let name = format!("{disk:?} with {set:?}");
@@ -268,7 +278,7 @@ fn square_distances() -> BTreeMap<u64, (i16, i16)> {
 fn every_whole_radius() {
     let distances = square_distances();
     let mut at = 0;
-    for r in 1..=707 {
+    for r in 1..=1_448 {
         let below = distances.range(..4 * r * r).next_back().map(|(_, &steps)| (steps, r));
         let equal = distances.get(&(4 * r * r)).map(|&steps| (steps, r + 1));
         let above = distances.range(4 * r * r + 1..).next().map(|(_, &steps)| (steps, r + 1));
@@ -282,5 +292,5 @@ fn every_whole_radius() {
             assert_eq!(whole_radius(d, t), Ok(radius), "{name}");
         }
     }
-    assert!(at > 500, "{at}");
+    assert!(at > 1_000, "{at}");
 }
