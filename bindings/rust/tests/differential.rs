@@ -11,7 +11,7 @@ use reference::drawing;
 use reference::engine::{flat, points_of, solve};
 use reference::geometry::{Disk as ExpectedDisk, Point as ExpectedPoint};
 use reference::inputs::AppendCase;
-use reference::limits::{FOOT, LEFT, RIGHT, TOP};
+use reference::limits::EM;
 use reference::random::Random;
 use reference::traced;
 use reference::{description, edges, figures, letters, lists, record, refusal, sheet};
@@ -26,7 +26,7 @@ fn ours<T>(answer: Result<T, Refusal>) -> Result<T, u8> {
 }
 
 fn disk_of(disk: Disk) -> ExpectedDisk {
-    ExpectedDisk { x: disk.x.into(), y: disk.y.into(), e: disk.e.into(), s: disk.s.try_into().expect("an S below 2^127") }
+    ExpectedDisk { x: disk.x.into(), y: disk.y.into(), e: disk.e.into(), s: disk.s }
 }
 
 fn points(support: SupportSet) -> Vec<ExpectedPoint> {
@@ -43,7 +43,7 @@ fn lent(disk: &ExpectedDisk, support: &[ExpectedPoint]) -> Option<(Disk, Support
         _ => return None,
     };
     let (x, y) = (disk.x.try_into().ok()?, disk.y.try_into().ok()?);
-    Some((Disk { x, y, e: disk.e.try_into().ok()?, s: disk.s.try_into().ok()? }, set))
+    Some((Disk { x, y, e: disk.e.try_into().ok()?, s: disk.s }, set))
 }
 
 /// The engine on a list, then radius, preview and record of what it found.
@@ -82,11 +82,6 @@ fn compare_writer(disk: Disk, support: SupportSet, room: usize, name: &str) {
 fn widened(bytes: &[u8]) -> Vec<u8> {
     let zeros = if bytes.len() == OLD_RECORD_LENGTH { vec![0; RECORD_LENGTH - OLD_RECORD_LENGTH] } else { vec![] };
     [&bytes[..bytes.len().min(24)], &zeros, &bytes[bytes.len().min(24)..]].concat()
-}
-
-/// The form in 45 bytes of a record of 53, which has the low word of S alone.
-fn shortened(bytes: &[u8]) -> Vec<u8> {
-    [&bytes[..24], &bytes[32..]].concat()
 }
 
 /// A record that is read gives its form in 53 bytes again, and is what the engine gives for its points alone.
@@ -229,7 +224,7 @@ fn drawn_traced(longest: usize, random: &mut Random) -> Vec<i16> {
     let mut list = Vec::with_capacity(3 * n);
     for p in points {
         let t = common.unwrap_or_else(|| random.coordinate(0, MOST_TOLERANCE));
-        list.extend([p.x.clamp(LEFT + t, RIGHT - t), p.y.clamp(FOOT + t, TOP - t), t]);
+        list.extend([p.x.clamp(EM.left + t, EM.right - t), p.y.clamp(EM.foot + t, EM.top - t), t]);
     }
     if random.chance(30) {
         damage_traced(&mut list, random);
@@ -243,8 +238,8 @@ fn damage_traced(list: &mut Vec<i16>, random: &mut Random) {
         let at = 3 * random.below(list.len() / 3);
         let t = list[at + 2].clamp(0, MOST_TOLERANCE);
         match random.below(3) {
-            0 => list[at] = random.pick(&[LEFT + t - 1, RIGHT - t + 1, i16::MIN, i16::MAX]),
-            1 => list[at + 1] = random.pick(&[FOOT + t - 1, TOP - t + 1, i16::MIN, i16::MAX]),
+            0 => list[at] = random.pick(&[EM.left + t - 1, EM.right - t + 1, i16::MIN, i16::MAX]),
+            1 => list[at + 1] = random.pick(&[EM.foot + t - 1, EM.top - t + 1, i16::MIN, i16::MAX]),
             _ => list[at + 2] = random.pick(&[-1, MOST_TOLERANCE + 1, i16::MIN, i16::MAX]),
         }
     }
@@ -571,7 +566,7 @@ fn compare_any_choice(list: &[i16], random: &mut Random, name: &str) {
 /// Any numbers at all as a disk and a support set.
 fn compare_record_like(random: &mut Random, name: &str) {
     let small = |random: &mut Random| random.word() >> random.below(64);
-    let s = (u128::from(random.word()) << 64 | u128::from(random.word())) >> (1 + random.below(127));
+    let s = (u128::from(random.word()) << 64 | u128::from(random.word())) >> random.below(128);
     let disk = Disk { x: small(random) as i64, y: small(random) as i64, e: small(random), s };
     let point = |random: &mut Random| Point { x: random.word() as i16, y: random.word() as i16 };
     let (a, b, c) = (point(random), point(random), point(random));

@@ -1,18 +1,19 @@
 //! Disks with points that belong to them and with points that do not, and their records: what the engine gives passes in every call, and
 //! every damage to it gets what the reference says.
 
-use super::{compare_figures, compare_reader, compare_writer, lent, ours, shortened};
+use super::{compare_figures, compare_reader, compare_writer, lent, ours};
 use reference::damage::single_faults;
 use reference::engine::{flat, solve};
 use reference::geometry::{scalar, Disk as ExpectedDisk, Point as ExpectedPoint};
-use reference::limits::{FOOT, LEFT, MOST_E, MOST_SQUARE, RIGHT, TOP};
+use reference::limits::EM;
+use reference::record::{bytes_of, LONG, SHORT};
 use reference::support::sets;
-use reference::{letters, lists, record};
+use reference::{letters, lists};
 use std::collections::BTreeMap;
 use volkhidar::*;
 
 /// X, Y, E, S.
-pub type Numbers = (i128, i128, i128, i128);
+pub type Numbers = (i128, i128, i128, u128);
 
 pub fn disk_with((x, y, e, s): Numbers) -> ExpectedDisk {
     ExpectedDisk { x, y, e, s }
@@ -22,11 +23,11 @@ pub fn disk_with((x, y, e, s): Numbers) -> ExpectedDisk {
 /// same. None where our types cannot hold the numbers.
 pub fn compare_calls(disk: &ExpectedDisk, set: &[ExpectedPoint], name: &str) -> Option<u8> {
     let (d, t) = lent(disk, set)?;
-    let bytes = record::bytes_of(disk, set);
+    let bytes = bytes_of(&LONG, disk, set);
     compare_figures(d, t, name);
     compare_writer(d, t, 60, name);
     compare_reader(&bytes, name);
-    compare_reader(&shortened(&bytes), &format!("45 bytes, {name}"));
+    compare_reader(&bytes_of(&SHORT, disk, set), name);
     let mut buffer = [0; RECORD_LENGTH];
     let radius = ours(whole_radius(d, t)).err();
     let others = [ours(preview(d, t)).err(), ours(write_record(d, t, &mut buffer)).err(), ours(read_record(&bytes)).err()];
@@ -80,7 +81,7 @@ fn records_with_one_bit_flipped() {
     let mut times = [0; 16];
     for case in lists::mixed(500, 16) {
         let answer = solve(&mut flat(&case.points)).unwrap();
-        let whole = record::bytes_of(&answer.disk, &answer.support);
+        let whole = bytes_of(&LONG, &answer.disk, &answer.support);
         for bit in 0..8 * whole.len() {
             let mut bytes = whole.clone();
             bytes[bit / 8] ^= 1 << (bit % 8);
@@ -124,7 +125,7 @@ const CIRCLES: [Numbers; 9] = [
 fn every_set_of_points_on_one_circle() {
     let mut times = [[0; 2]; 4];
     for disk in CIRCLES.map(disk_with) {
-        let every = (LEFT..=RIGHT).flat_map(|x| (FOOT..=TOP).map(move |y| ExpectedPoint::new(x, y)));
+        let every = (EM.left..=EM.right).flat_map(|x| (EM.foot..=EM.top).map(move |y| ExpectedPoint::new(x, y)));
         let on_boundary: Vec<_> = every.filter(|&p| disk.has_on_boundary(p)).collect();
         for set in sets(&on_boundary) {
             let name = format!("{disk:?} with {set:?}");
@@ -208,8 +209,7 @@ fn the_first_rule_that_is_broken_decides() {
             assert_eq!(ours(write_record(d, t, &mut buffer)), Err(if room < RECORD_LENGTH { 8 } else { due }));
             assert_eq!(buffer, vec![0xEE; room]);
         }
-        let whole = record::bytes_of(&disk_with(numbers), &two);
-        for bytes in [shortened(&whole), whole] {
+        for bytes in [LONG, SHORT].map(|form| bytes_of(&form, &disk_with(numbers), &two)) {
             assert_eq!(ours(read_record(&bytes)), Err(due));
             for length in [0, 44, 46, 52, 54, 90] {
                 let mut bytes = bytes.clone();
@@ -227,13 +227,13 @@ fn the_first_rule_that_is_broken_decides() {
 /// Every disk whose numbers are at their limits, a step within them or, but for S, in the middle; some of these have a common divisor.
 fn disks_about_the_limits() -> Vec<ExpectedDisk> {
     let mut all = vec![];
-    for e in [1, 2, MOST_E - 1, MOST_E] {
+    for e in [1, 2, EM.most_e - 1, EM.most_e] {
         let places = |least: i16, most: i16| {
             let [least, most] = [least, most].map(|edge| i128::from(edge) * e);
             [least, least + 1, (least + most) / 2, most - 1, most]
         };
-        let centres = places(LEFT, RIGHT).into_iter().flat_map(|x| places(FOOT, TOP).map(|y| (x, y)));
-        let largest = MOST_SQUARE * e * e;
+        let centres = places(EM.left, EM.right).into_iter().flat_map(|x| places(EM.foot, EM.top).map(|y| (x, y)));
+        let largest = (EM.most_square * e * e).unsigned_abs();
         all.extend(centres.flat_map(|(x, y)| [0, 1, largest - 1, largest].map(|s| ExpectedDisk { x, y, e, s })));
     }
     all
@@ -241,7 +241,7 @@ fn disks_about_the_limits() -> Vec<ExpectedDisk> {
 
 #[test]
 fn disks_at_the_limits() {
-    let corners = [(LEFT, FOOT), (LEFT, TOP), (1_024, 512), (RIGHT, FOOT), (RIGHT, TOP - 1), (RIGHT, TOP)];
+    let corners = [(0, -512), (0, 1_536), (1_024, 512), (2_048, -512), (2_048, 1_535), (2_048, 1_536)];
     let sets = sets(&letters::points(&corners));
     let mut times = [0; 16];
     for disk in disks_about_the_limits() {
@@ -268,7 +268,7 @@ fn a_disk_with_a_large_e() {
 
 /// The squares of the distances that points of the em box have, each with the steps from one point to the other.
 fn square_distances() -> BTreeMap<u64, (i16, i16)> {
-    let steps = (0..=RIGHT - LEFT).flat_map(|dx| (0..=TOP - FOOT).map(move |dy| (dx, dy)));
+    let steps = (0..=EM.side()).flat_map(|dx| (0..=EM.side()).map(move |dy| (dx, dy)));
     steps.map(|(dx, dy)| (u64::from(dx.unsigned_abs()).pow(2) + u64::from(dy.unsigned_abs()).pow(2), (dx, dy))).collect()
 }
 
@@ -284,7 +284,7 @@ fn every_whole_radius() {
         let above = distances.range(4 * r * r + 1..).next().map(|(_, &steps)| (steps, r + 1));
         at += usize::from(equal.is_some());
         for ((dx, dy), radius) in [below, above].into_iter().map(Option::unwrap).chain(equal) {
-            let set = rising(letters::points(&[(LEFT, TOP), (LEFT + dx, TOP - dy)]));
+            let set = rising(letters::points(&[(EM.left, EM.top), (EM.left + dx, EM.top - dy)]));
             let disk = ExpectedDisk::of_two(set[0], set[1]);
             let name = format!("{set:?}");
             assert_eq!(compare_calls(&disk, &set, &name), Some(0), "{name}");

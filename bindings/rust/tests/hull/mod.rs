@@ -3,7 +3,7 @@
 use super::{compare_list, ours};
 use reference::engine::{flat, points_of};
 use reference::geometry::{gcd, Point};
-use reference::limits::{FOOT, LEFT};
+use reference::limits::EM;
 use reference::random::Random;
 use reference::{damage, hull, letters, lists};
 use std::collections::BTreeSet;
@@ -192,7 +192,7 @@ fn polygon_of_many_corners() -> Vec<Point> {
     sides.sort_by(|&(a, b), &(c, d)| (b * c).cmp(&(a * d)));
     let back: Vec<(i16, i16)> = sides.iter().map(|&(a, b)| (-a, -b)).collect();
     let depth: i16 = sides.iter().map(|&(_, b)| b.min(0)).sum();
-    let mut at = Point::new(LEFT, FOOT - depth);
+    let mut at = Point::new(EM.left, EM.foot - depth);
     let mut corners = Vec::new();
     for (a, b) in [sides, back].concat() {
         corners.push(at);

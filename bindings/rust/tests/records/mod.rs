@@ -1,27 +1,28 @@
 //! Records of 53 bytes and of 45, and disks with S above 2⁶⁴: what is read and written, and what damage gets, as the reference says.
 
 use super::belonging::{compare_calls, disk_with, Numbers};
-use super::{compare_list, compare_reader, ours, shortened, widened};
+use super::{compare_figures, compare_list, compare_reader, compare_writer, ours, widened};
 use reference::damage::single_faults;
 use reference::engine::{flat, solve, Answer};
 use reference::geometry::{Disk as ExpectedDisk, Point as ExpectedPoint};
-use reference::limits::{FOOT, LEFT, RIGHT, TOP};
+use reference::limits::{EM, EM_1000};
 use reference::random::Random;
-use reference::{letters, lists, record};
+use reference::record::{bytes_of, Form, LONG, SHORT};
+use reference::{letters, lists};
 use volkhidar::*;
 
-const TWO_TO_64: i128 = 1 << 64;
+const TWO_TO_64: u128 = 1 << 64;
 
 // ---- disks with S above 2⁶⁴
 
 /// Three points near three corners of the em box and up to five in its middle, whose disk has S above 2⁶⁴; and the answer.
 fn wide(random: &mut Random) -> (Vec<ExpectedPoint>, Answer) {
     loop {
-        let mut points = letters::points(&[(LEFT, FOOT), (LEFT, TOP), (RIGHT, FOOT), (RIGHT, TOP)]);
+        let mut points = letters::points(&[(0, -512), (0, 1_536), (2_048, -512), (2_048, 1_536)]);
         random.shuffle(&mut points);
         points.truncate(3);
         for p in &mut points {
-            *p = ExpectedPoint::new(inward(p.x, LEFT, random), inward(p.y, FOOT, random));
+            *p = ExpectedPoint::new(inward(p.x, EM.left, random), inward(p.y, EM.foot, random));
         }
         points.extend((0..random.below(6)).map(|_| ExpectedPoint::new(random.coordinate(800, 1_200), random.coordinate(300, 700))));
         random.shuffle(&mut points);
@@ -83,35 +84,33 @@ fn disks_with_a_wide_s_damaged() {
     assert!(times[0] == 0 && times[7] > 1_000 && times[15] > 10_000, "{times:?}");
 }
 
-/// Numbers that the reference's cannot hold.
+/// At the ends of their types, and with E at its limit.
 #[test]
 fn the_largest_numbers() {
     let set = SupportSet::One(Point { x: 0, y: 0 });
-    for s in [1 << 127, (1 << 127) + 1, u128::MAX, u128::MAX - 1] {
-        for e in [1, 8_388_608, u64::MAX] {
-            let disk = Disk { x: 0, y: 0, e, s };
-            let mut buffer = [0xEE; 60];
-            assert_eq!(whole_radius(disk, set), Err(Refusal::BadRecord));
-            assert_eq!(preview(disk, set), Err(Refusal::BadRecord));
-            assert_eq!(write_record(disk, set, &mut buffer), Err(Refusal::BadRecord));
-            assert_eq!(write_record(disk, set, &mut buffer[..52]), Err(Refusal::NoRoom));
-            assert_eq!(buffer, [0xEE; 60]);
+    let squares = [0, 1, 63, 64, 65, 67, 68, 127].map(|bit| 1 << bit);
+    let all_squares = squares.iter().flat_map(|&s: &u128| [s - 1, s, s + 1]).chain([u128::MAX, u128::MAX - 1]);
+    for (s, e) in all_squares.flat_map(|s| [0, 1, 8_388_608, 8_388_609, 1 << 63, u64::MAX].map(|e| (s, e))) {
+        for (x, y) in [(0, 0), (1, 0), (i64::MAX, i64::MIN), (i64::MIN, i64::MAX)] {
+            let disk = Disk { x, y, e, s };
+            let name = format!("{disk:?}");
+            compare_figures(disk, set, &name);
+            compare_writer(disk, set, 53, &name);
+            compare_writer(disk, set, 52, &name);
         }
     }
 }
 
 // ---- records of 45 bytes
 
-/// The point, if it is in the em box of 1,000 units; else another that is.
-fn in_old_box(p: &ExpectedPoint) -> ExpectedPoint {
-    ExpectedPoint::new(p.x.rem_euclid(1_001), (p.y + 250).rem_euclid(1_001) - 250)
-}
-
 /// The answers for drawn lists in the em box of 1,000 units.
-fn old_answers(count: usize) -> impl Iterator<Item = (String, Answer)> {
-    lists::mixed(count, 16).into_iter().map(|case| {
-        let points: Vec<ExpectedPoint> = case.points.iter().map(in_old_box).collect();
-        (case.name, solve(&mut flat(&points)).unwrap())
+fn old_answers(count: u64) -> impl Iterator<Item = (String, Answer)> {
+    (0..count).map(|seed| {
+        let mut random = Random::new(seed);
+        let n = 1 + random.below(16);
+        let kind = random.pick(&lists::KINDS);
+        let points = lists::draw_in(&EM_1000, kind, n, &mut random);
+        (format!("{kind:?}, seed {seed}, {n} points"), solve(&mut flat(&points)).unwrap())
     })
 }
 
@@ -120,9 +119,8 @@ fn old_answers(count: usize) -> impl Iterator<Item = (String, Answer)> {
 fn old_records_are_read_and_written_again() {
     let mut times = [0; 4];
     for (name, Answer { disk, support, .. }) in old_answers(50_000) {
-        let whole = record::bytes_of(&disk, &support);
-        let old = shortened(&whole);
-        assert_eq!((old.len(), widened(&old)), (OLD_RECORD_LENGTH, whole), "{name}");
+        let old = bytes_of(&SHORT, &disk, &support);
+        assert_eq!((old.len(), widened(&old)), (OLD_RECORD_LENGTH, bytes_of(&LONG, &disk, &support)), "{name}");
         assert!(read_record(&old).is_ok(), "{name}");
         compare_reader(&old, &name);
         times[support.len()] += 1;
@@ -135,7 +133,7 @@ fn old_records_with_single_faults() {
     let mut times = [0; 16];
     for (name, Answer { disk, support, .. }) in old_answers(5_000) {
         for (disk, set) in single_faults(&disk, &support, &[]) {
-            let old = shortened(&record::bytes_of(&disk, &set));
+            let old = bytes_of(&SHORT, &disk, &set);
             compare_reader(&old, &format!("{disk:?} with {set:?}, {name}"));
             times[usize::from(ours(read_record(&old)).err().unwrap_or(0))] += 1;
         }
@@ -179,11 +177,11 @@ const BY_HAND: [Row; 26] = [
 #[test]
 fn records_by_hand() {
     for (name, numbers, set, due) in BY_HAND {
-        let whole = record::bytes_of(&disk_with(numbers), &letters::points(set));
-        for (bytes, due) in [shortened(&whole), whole].iter().zip(due) {
+        for (form, due) in [SHORT, LONG].into_iter().zip(due) {
+            let bytes = bytes_of(&form, &disk_with(numbers), &letters::points(set));
             let name = format!("{name}, {} bytes", bytes.len());
-            assert_eq!(ours(read_record(bytes)).err().unwrap_or(0), due, "{name}");
-            compare_reader(bytes, &name);
+            assert_eq!(ours(read_record(&bytes)).err().unwrap_or(0), due, "{name}");
+            compare_reader(&bytes, &name);
         }
     }
 }
@@ -192,10 +190,10 @@ fn records_by_hand() {
 
 /// Some records of 45 bytes, of 53, and of 53 with S above 2⁶⁴; all are valid and their points belong.
 fn some_records() -> Vec<Vec<u8>> {
-    let whole = |answer: Answer| record::bytes_of(&answer.disk, &answer.support);
-    let old = old_answers(300).map(|(_, answer)| shortened(&whole(answer)));
-    let new = lists::mixed(300, 16).into_iter().map(|case| whole(solve(&mut flat(&case.points)).unwrap()));
-    let with_wide_s = (0..100).map(|seed| whole(wide(&mut Random::new(seed)).1));
+    let record = |form: Form, answer: Answer| bytes_of(&form, &answer.disk, &answer.support);
+    let old = old_answers(300).map(|(_, answer)| record(SHORT, answer));
+    let new = lists::mixed(300, 16).map(|case| record(LONG, solve(&mut flat(&case.points)).unwrap()));
+    let with_wide_s = (0..100).map(|seed| record(LONG, wide(&mut Random::new(seed)).1));
     old.chain(new).chain(with_wide_s).collect()
 }
 
