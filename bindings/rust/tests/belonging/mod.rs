@@ -75,23 +75,6 @@ fn answers_of_the_engine_damaged() {
     assert!(times[0] > 200 && times[7] > 20_000 && times[15] > 50_000, "{times:?}");
 }
 
-/// Nearly all are refused, with 7 or 15; in a few the points are others and belong to the disk all the same.
-#[test]
-fn records_with_one_bit_flipped() {
-    let mut times = [0; 16];
-    for case in lists::mixed(500, 16) {
-        let answer = solve(&mut flat(&case.points)).unwrap();
-        let whole = bytes_of(&LONG, &answer.disk, &answer.support);
-        for bit in 0..8 * whole.len() {
-            let mut bytes = whole.clone();
-            bytes[bit / 8] ^= 1 << (bit % 8);
-            compare_reader(&bytes, &format!("bit {bit}, {}", case.name));
-            times[usize::from(ours(read_record(&bytes)).err().unwrap_or(0))] += 1;
-        }
-    }
-    assert!([7, 15].iter().all(|&number| times[number] > 5_000), "{times:?}");
-}
-
 /// Belonging by the angles, for a valid disk: one point is the disk, two are opposite, three have only acute angles; all on the boundary.
 fn belongs_by_angles(disk: &ExpectedDisk, set: &[ExpectedPoint]) -> bool {
     let is_midway = |a: ExpectedPoint, b: ExpectedPoint| {
