@@ -63,7 +63,7 @@ extern "C" {
 #define VOLKHIDAR_MOST_POINTS 4096      /* of a point list */
 #define VOLKHIDAR_LIST_LENGTH 8192      /* least length of the list that volkhidar_load and volkhidar_append_point are lent */
 #define VOLKHIDAR_RECORD_LENGTH 53      /* of a record, in bytes */
-#define VOLKHIDAR_OLD_RECORD_LENGTH 45  /* of a record of the 1,000 units, which is still read */
+#define VOLKHIDAR_OLD_RECORD_LENGTH 45  /* of a record of an em box of 1,000 units, which is read too */
 #define VOLKHIDAR_MOST_TRACED 1024      /* traced points of a list */
 #define VOLKHIDAR_MOST_TOLERANCE 50     /* of a traced point, in units */
 
@@ -83,8 +83,8 @@ typedef struct {
 /*
  * Centre (x/e, y/e), squared radius s/e^2. A disk that a call returns has e from 1 to 8,388,608 and no common divisor of x, y and e
  * above 1; so each disk has one writing. Its centre is in the em box and s at most 2,097,152 e^2, except that a disk of
- * volkhidar_smallest_disk_through may lie and reach anywhere. s may be above 2^64, and nothing else is: the test of a point by the
- * procedure fits 64 bits too.
+ * volkhidar_smallest_disk_through may lie and reach anywhere. s may need more than 64 bits, and it alone: the procedure's own test of a
+ * point fits 64.
  */
 typedef struct {
     int64_t x, y;
@@ -244,8 +244,8 @@ volkhidar_preview_answer volkhidar_preview(volkhidar_disk disk, volkhidar_suppor
 uint64_t volkhidar_write_record(volkhidar_disk disk, volkhidar_support support, uint8_t *buffer, size_t buffer_length);
 
 /*
- * Reads a record of 53 bytes, or of 45 by the limits of the 1,000 units. What volkhidar_write_record wrote is read back. What is read,
- * written again, gives its own bytes if they were 53, and otherwise the 53 bytes of the same disk and points.
+ * Reads a record of 53 bytes, or of 45 by the limits of an em box of 1,000 units. What volkhidar_write_record wrote is read back. What
+ * is read, written again, gives its own bytes if they were 53, and otherwise the 53 bytes of the same disk and points.
  * Refusals, in this order: 7, for bytes of another length and for a count that disagrees with the repeats, too; 15 for a valid record
  * whose points do not belong to its disk.
  */
