@@ -19,7 +19,8 @@ mod tests {
     use super::*;
     use crate::damage::single_faults;
     use crate::geometry::scalar;
-    use crate::limits::RECORD_LENGTH;
+    use crate::limits::EM;
+    use crate::record::LONG;
     use crate::refusal::Refusal;
     use crate::support::{distinct, sets};
     use crate::{engine, figures, lists, record};
@@ -64,7 +65,7 @@ mod tests {
         if let [a, b, c] = *few {
             disks.extend(Disk::of_three(a, b, c));
         }
-        let beside = disks.clone().into_iter().flat_map(|disk| [-1, 1].map(|step| Disk { s: disk.s + step, ..disk }));
+        let beside = disks.clone().into_iter().flat_map(|disk| [disk.s.wrapping_sub(1), disk.s + 1].map(|s| Disk { s, ..disk }));
         disks.extend(beside);
         disks
     }
@@ -95,7 +96,7 @@ mod tests {
             let answer = engine::solve(&mut engine::flat(&case.points)).unwrap();
             let (disk, support) = (answer.disk, answer.support);
             assert!(fit_both_ways(&disk, &support), "{}", case.name);
-            let mut buffer = [0; RECORD_LENGTH];
+            let mut buffer = [0; LONG.length()];
             assert_eq!(record::write(&disk, &support, &mut buffer), Ok(()), "{}", case.name);
             assert!(figures::preview(&disk, &support).is_ok(), "{}", case.name);
             times[support.len()] += 1;
@@ -111,7 +112,7 @@ mod tests {
         for case in lists::mixed(3_000, 12) {
             let answer = engine::solve(&mut engine::flat(&case.points)).unwrap();
             for (disk, support) in single_faults(&answer.disk, &answer.support, &case.points) {
-                let refusal = record::check(&disk, &support).err();
+                let refusal = record::check(&disk, &support, &EM).err();
                 if refusal != Some(Refusal::BadRecord) {
                     assert_eq!(fit_both_ways(&disk, &support), refusal.is_none(), "{}", case.name);
                 }

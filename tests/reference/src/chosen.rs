@@ -12,7 +12,7 @@ use crate::engine::{accepted_points, flat};
 use crate::geometry::{Disk, Point};
 use crate::hull::corners;
 use crate::inputs::{ChosenCase, FixedCase};
-use crate::limits::{FOOT, LEFT, RIGHT, TOP};
+use crate::limits::EM;
 use crate::lists::{self, KINDS};
 use crate::random::Random;
 use crate::refusal::Refusal;
@@ -113,7 +113,8 @@ pub fn draw(longest: usize, random: &mut Random) -> ChosenCase {
         points.extend(vec![random.pick(&chosen.set()); 1 + random.below(3)]);
         random.shuffle(&mut points);
     }
-    let unused = random.pick(&[points[0], Point::new(7, 7), Point::new(RIGHT + 1, TOP + 1), Point::new(i16::MIN, i16::MAX)]);
+    let unused =
+        random.pick(&[points[0], Point::new(7, 7), Point::new(EM.right + 1, EM.top + 1), Point::new(i16::MIN, i16::MAX)]);
     let mut case = ChosenCase { chosen, unused, list: flat(&points) };
     match random.below(20) {
         0 => damage_list(&mut case.list, random),
@@ -170,14 +171,14 @@ fn damage_list(list: &mut Vec<i16>, random: &mut Random) {
         0 => list.clear(),
         1 => list.push(random.word() as i16),
         2 => list.truncate(at),
-        _ => list[at] = random.pick(&[LEFT - 1, RIGHT + 1, FOOT - 1, i16::MIN, i16::MAX]),
+        _ => list[at] = random.pick(&[EM.left - 1, EM.right + 1, EM.foot - 1, i16::MIN, i16::MAX]),
     }
 }
 
 /// A chosen point is replaced: by its neighbour, its mirror image or a point outside the em box.
 fn with_another(chosen: Chosen, random: &mut Random) -> Chosen {
     let Point { x, y } = chosen.set()[0];
-    let others = [(x, y - 1), (x + 1, y), (y, x), (LEFT - 1, y), (x, TOP + 1), (i16::MIN, i16::MAX)];
+    let others = [(x, y - 1), (x + 1, y), (y, x), (EM.left - 1, y), (x, EM.top + 1), (i16::MIN, i16::MAX)];
     let (x, y) = random.pick(&others);
     let other = Point::new(x, y);
     match chosen {
@@ -191,7 +192,6 @@ fn with_another(chosen: Chosen, random: &mut Random) -> Chosen {
 mod tests {
     use super::*;
     use crate::geometry::gcd;
-    use crate::limits::MOST_E;
     use crate::lists::Kind;
     use crate::procedure::{run_with, Cover};
 
@@ -250,7 +250,7 @@ mod tests {
         for (case, points, disk) in answered(6, 4_000, 60) {
             let Some(disk) = disk else { continue };
             assert!(disk.holds_all(&points) && has_on_boundary(&disk, &case.chosen.set()), "{case:?}");
-            assert!((1..=MOST_E).contains(&disk.e) && gcd(gcd(disk.x, disk.y), disk.e) == 1, "{case:?}");
+            assert!((1..=EM.most_e).contains(&disk.e) && gcd(gcd(disk.x, disk.y), disk.e) == 1, "{case:?}");
         }
     }
 
@@ -309,11 +309,11 @@ mod tests {
     #[test]
     fn refusals_come_in_their_order() {
         let refusal_of = |list: &[i16], chosen| smallest_disk_through(list, chosen).err().map(Refusal::number);
-        let missing = Chosen::Two(Point::new(-1, 900), Point::new(2, 0));
+        let missing = Chosen::Two(Point::new(-1, 1900), Point::new(2, 0));
         assert_eq!(refusal_of(&[-1; 9_001], missing), Some(9));
         assert_eq!(refusal_of(&[], missing), Some(5));
         assert_eq!(refusal_of(&[-1; 8_194], missing), Some(4));
-        assert_eq!(refusal_of(&[0, 0, 2, 0, 4, 0, 0, 751], missing), Some(3));
+        assert_eq!(refusal_of(&[0, 0, 2, 0, 4, 0, 0, 1537], missing), Some(3));
         assert_eq!(refusal_of(&[0, 0, 2, 0, 4, 0], missing), Some(12));
         assert_eq!(refusal_of(&[0, 0, 2, 0, 4, 0], Chosen::One(Point::new(2, 0))), Some(13));
         assert_eq!(refusal_of(&[0, 0, 2, 0, 4, 0], Chosen::One(Point::new(4, 0))), None);

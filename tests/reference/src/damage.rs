@@ -6,7 +6,7 @@ use crate::drawing::DrawnPoint;
 use crate::engine;
 use crate::geometry::Point;
 use crate::inputs::{AppendCase, LoaderCase, PartCase, SheetCase};
-use crate::limits::{FOOT, LEFT, LIST_LENGTH, RIGHT, TOP};
+use crate::limits::{EM, LIST_LENGTH};
 use crate::lists::{self, Kind};
 use crate::random::Random;
 use crate::sheet;
@@ -73,10 +73,10 @@ const BYTES: &[u8] = b"0123456789- \n\n\r\t+.,x\0\x0b\x7f\xa0\xff";
 
 /// Lines that are faulty, or only look so.
 const LINES: [&str; 24] = [
-    "\n1001 0\n",
+    "\n2049 0\n",
     "\n-1 0\n",
-    "\n0 751\n",
-    "\n0 -251\n",
+    "\n0 1537\n",
+    "\n0 -513\n",
     "\n12345 0\n",
     "\n0 00000\n",
     "\n1\n",
@@ -85,12 +85,12 @@ const LINES: [&str; 24] = [
     "\n- 1\n",
     "\n5-3\n",
     "\n-0 -0\n",
-    "\n0750 0750\n",
+    "\n1536 0750\n",
     "\n     \n",
     "\n9999 -9999\n",
     "\n--1 1\n",
     "\n+0 -0\n",
-    "\n+1000 +0750\n",
+    "\n+2048 +1536\n",
     "\n+\n",
     "\n+ 1\n",
     "\n5+3\n",
@@ -121,7 +121,7 @@ pub fn point_list(random: &mut Random) -> Vec<i16> {
     match random.below(8) {
         0 => list.truncate(at),
         1 => list.push(random.word() as i16),
-        2 | 3 => list[at] = random.pick(&[LEFT - 1, RIGHT + 1, FOOT - 1, TOP + 1, i16::MIN, i16::MAX]),
+        2 | 3 => list[at] = random.pick(&[EM.left - 1, EM.right + 1, EM.foot - 1, EM.top + 1, i16::MIN, i16::MAX]),
         _ => (),
     }
     list
@@ -132,14 +132,15 @@ pub fn point_list(random: &mut Random) -> Vec<i16> {
 /// A point and a list with a few points at its front; in about half of the cases a coordinate, the number or the list's length is wrong.
 pub fn append(random: &mut Random) -> AppendCase {
     let points = random.below(9);
-    let mut front = engine::flat(&lists::draw(random.pick(&lists::KINDS), points.max(1), random));
+    let kind = if random.chance(20) { Kind::Wide } else { random.pick(&lists::KINDS) };
+    let mut front = engine::flat(&lists::draw(kind, points.max(1), random));
     front.truncate(2 * points);
     let n = if random.chance(90) { points as u64 } else { random.pick(&[0, 1, 20, 4_095, 4_096, 4_097, 1 << 40, u64::MAX]) };
     let room = if random.chance(95) { LIST_LENGTH + random.pick(&[0, 1, 8]) } else { random.pick(&[20, LIST_LENGTH - 1]) };
     let point = if random.chance(35) {
-        DrawnPoint::Whole(whole_coordinate(LEFT, RIGHT, random), whole_coordinate(FOOT, TOP, random))
+        DrawnPoint::Whole(whole_coordinate(EM.left, EM.right, random), whole_coordinate(EM.foot, EM.top, random))
     } else {
-        DrawnPoint::Drawn(float_coordinate(LEFT, RIGHT, random), float_coordinate(FOOT, TOP, random))
+        DrawnPoint::Drawn(float_coordinate(EM.left, EM.right, random), float_coordinate(EM.foot, EM.top, random))
     };
     AppendCase { point, n, room, front }
 }

@@ -96,13 +96,13 @@ mod tests {
         assert_eq!(loaded(b"\n  \n 1   -2  \n\n0003 -0\n"), Ok(vec![(1, -2), (3, 0)]));
         assert_eq!(loaded(b"-0 0750"), Ok(vec![(0, 750)]));
         assert_eq!(loaded(b"+12 -7\n+0 +0750"), Ok(vec![(12, -7), (0, 750)]));
-        assert_eq!(loaded(b"1000 -250\n1000 750\n  "), Ok(vec![(1000, -250), (1000, 750)]));
+        assert_eq!(loaded(b"2048 -512\n2048 1536\n  "), Ok(vec![(2048, -512), (2048, 1536)]));
     }
 
     #[test]
     fn faulty_lines() {
         let faulty: [&[u8]; 26] = [
-            b"12345 0", b"01000 0", b"1", b"1 2 3", b"-", b"- 1", b"5-3", b"1 -", b"--1 2", b"1 2\r\n", b"1\t2", b"1 2\0",
+            b"12345 0", b"02048 0", b"1", b"1 2 3", b"-", b"- 1", b"5-3", b"1 -", b"--1 2", b"1 2\r\n", b"1\t2", b"1 2\0",
             b"1,2", b"1.0 2", b"a 1", b"\r\n", b"\t", b"1 2-", b"1\x0b2", b"+", b"+ 1", b"5+3", b"1 +", b"++1 2", b"+-1 2",
             b"-+1 2",
         ];
@@ -113,7 +113,7 @@ mod tests {
 
     #[test]
     fn edges_of_the_box() {
-        for outside in ["1001 0", "-1 0", "0 -251", "0 751", "9999 -9999"] {
+        for outside in ["2049 0", "-1 0", "0 -513", "0 1537", "9999 -9999"] {
             assert_eq!(loaded(outside.as_bytes()), Err(3), "{outside}");
         }
     }
@@ -127,8 +127,8 @@ mod tests {
 
     #[test]
     fn the_first_faulty_line_decides() {
-        assert_eq!(loaded(b"1 1\n1001 0\nx"), Err(3));
-        assert_eq!(loaded(b"1 1\nx\n1001 0"), Err(2));
+        assert_eq!(loaded(b"1 1\n2049 0\nx"), Err(3));
+        assert_eq!(loaded(b"1 1\nx\n2049 0"), Err(2));
     }
 
     #[test]
@@ -139,7 +139,7 @@ mod tests {
         assert_eq!(and(b"  \n\n "), Ok(MOST_POINTS));
         assert_eq!(and(b"3 4"), Err(4));
         assert_eq!(and(b"3 4 5"), Err(2));
-        assert_eq!(and(b"3 751"), Err(3));
+        assert_eq!(and(b"3 1537"), Err(3));
         assert_eq!(and(b"3 4\nx"), Err(4));
     }
 

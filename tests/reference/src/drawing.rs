@@ -1,7 +1,7 @@
 //! Points from a drawing program's own values (document 02, item 2).
 
 use crate::geometry::Point;
-use crate::limits::{FOOT, LEFT, LIST_LENGTH, MOST_POINTS, RIGHT, TOP};
+use crate::limits::{EM, LIST_LENGTH, MOST_POINTS};
 use crate::refusal::Refusal;
 
 /// A point as the drawing program hands it over.
@@ -34,7 +34,7 @@ fn place(point: DrawnPoint) -> Option<(i128, i128)> {
 }
 
 fn in_em_box(x: i128, y: i128) -> Option<Point> {
-    let inside = (LEFT.into()..=RIGHT.into()).contains(&x) && (FOOT.into()..=TOP.into()).contains(&y);
+    let inside = (EM.left.into()..=EM.right.into()).contains(&x) && (EM.foot.into()..=EM.top.into()).contains(&y);
     inside.then(|| Point::new(x as i16, y as i16))
 }
 
@@ -63,7 +63,7 @@ mod tests {
 
     #[test]
     fn floats_of_every_class() {
-        for (v, z) in [(0.0, 0), (-0.0, 0), (1.0, 1), (-250.0, -250), (1e15, 1_000_000_000_000_000)] {
+        for (v, z) in [(0.0, 0), (-0.0, 0), (1.0, 1), (-512.0, -512), (1e15, 1_000_000_000_000_000)] {
             assert_eq!(whole(v), Some(z), "{v}");
         }
         assert_eq!(whole(2f64.powi(63)), Some(1 << 63));

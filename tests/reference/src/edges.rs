@@ -8,6 +8,7 @@ mod chosen;
 mod descriptions;
 mod drawings;
 mod hull;
+mod lists;
 mod radii;
 mod records;
 mod sheets;
@@ -18,6 +19,7 @@ pub use chosen::choices;
 pub use descriptions::descriptions;
 pub use drawings::drawings;
 pub use hull::reductions;
+pub use lists::solvings;
 pub use records::{readings, writings};
 pub use sheets::{parts, sheets};
 pub use traced::tracings;
@@ -42,9 +44,14 @@ mod tests {
     use crate::hull::reduce_to_hull;
     use crate::letters::points;
     use crate::procedure::{self, Cover};
+    use crate::record::LONG;
     use crate::refusal::Refusal;
     use crate::traced::smallest_disk_of_traced;
-    use crate::{description, drawing, engine::flat, figures, record, sheet};
+    use crate::{description, drawing, engine, engine::flat, figures, record, sheet};
+
+    fn disk([x, y, e, s]: [i128; 4]) -> Disk {
+        Disk { x, y, e, s: s.unsigned_abs() }
+    }
 
     #[test]
     fn the_loader_keeps_to_them() {
@@ -59,11 +66,21 @@ mod tests {
     }
 
     #[test]
+    fn the_engine_keeps_to_them() {
+        for Edge { says, given, gives } in solvings() {
+            let mut list = given.clone();
+            let answer = engine::solve(&mut list).map(|answer| answer.disk).map_err(Refusal::number);
+            assert_eq!(answer, gives.map(disk), "{says}: {} numbers, {:?}", given.len(), &given[..given.len().min(12)]);
+            assert!(gives.is_ok() || list == given, "{says}");
+        }
+    }
+
+    #[test]
     fn the_procedure_with_two_points_fixed_keeps_to_them() {
         for Edge { says, given, gives } in fixings() {
             let mut left = given.points.clone();
             let run = procedure::run_with(&mut left, &[given.a, given.b]);
-            let disk = gives.0.map(|[x, y, e, s]| Disk { x, y, e, s });
+            let disk = gives.0.map(disk);
             assert_eq!(run.cover, disk.map_or(Cover::NoCircle, Cover::Disk), "{says}: {given:?}");
             assert_eq!((run.tests, left), (given.points.len() as u64, gives.1), "{says}: {given:?}");
         }
@@ -73,8 +90,7 @@ mod tests {
     fn the_call_for_chosen_points_keeps_to_them() {
         for Edge { says, given, gives } in choices() {
             let answer = smallest_disk_through(&given.list, given.chosen).map_err(Refusal::number);
-            let disk = gives.map(|[x, y, e, s]| Disk { x, y, e, s });
-            assert_eq!(answer, disk, "{says}: {:?} of {} numbers", given.chosen, given.list.len());
+            assert_eq!(answer, gives.map(disk), "{says}: {:?} of {} numbers", given.chosen, given.list.len());
         }
     }
 
@@ -82,8 +98,7 @@ mod tests {
     fn the_call_for_traced_points_keeps_to_them() {
         for Edge { says, given, gives } in tracings() {
             let answer = smallest_disk_of_traced(&given).map_err(Refusal::number);
-            let disk = gives.map(|[x, y, e, s]| Disk { x, y, e, s });
-            assert_eq!(answer, disk, "{says}: {} numbers, {:?}", given.len(), &given[..given.len().min(15)]);
+            assert_eq!(answer, gives.map(disk), "{says}: {} numbers, {:?}", given.len(), &given[..given.len().min(15)]);
         }
     }
 
@@ -142,7 +157,7 @@ mod tests {
             let (disk, support) = (&given.disk, &given.support);
             let answer = record::write(disk, support, &mut buffer).map_err(Refusal::number);
             assert_eq!(answer, gives.written, "{says}: {disk:?} with {support:?}");
-            let filled = if answer.is_ok() { record::bytes_of(disk, support) } else { vec![] };
+            let filled = if answer.is_ok() { record::bytes_of(&LONG, disk, support) } else { vec![] };
             assert_eq!(buffer, [&filled, &before[filled.len()..]].concat(), "{says}");
             let radius = figures::whole_radius(disk, support).map_err(Refusal::number);
             assert_eq!(radius, gives.radius, "{says}: {disk:?} with {support:?}");

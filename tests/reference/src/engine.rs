@@ -69,15 +69,16 @@ mod tests {
         assert_eq!(refusal_of(vec![-1; 9_001]), Some(9));
         assert_eq!(refusal_of(vec![]), Some(5));
         assert_eq!(refusal_of(vec![-1; 8_194]), Some(4));
-        assert_eq!(refusal_of(vec![0, 0, 1001, 0]), Some(3));
-        assert_eq!(refusal_of(vec![0, 0, 0, -251]), Some(3));
-        assert_eq!(refusal_of(vec![0, 751]), Some(3));
+        assert_eq!(refusal_of(vec![0, 0, 2049, 0]), Some(3));
+        assert_eq!(refusal_of(vec![0, 0, 0, -513]), Some(3));
+        assert_eq!(refusal_of(vec![0, 1537]), Some(3));
         assert_eq!(refusal_of(vec![i16::MIN, i16::MAX]), Some(3));
     }
 
     #[test]
     fn edges_of_the_box_and_of_the_number_pass() {
-        assert_eq!(refusal_of(vec![1000, -250]), None);
+        assert_eq!(refusal_of(vec![2048, -512]), None);
+        assert_eq!(refusal_of(vec![0, 1536]), None);
         assert_eq!(refusal_of(vec![7; 8_192]), None);
     }
 }

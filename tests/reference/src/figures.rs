@@ -1,19 +1,19 @@
 //! The cutting radius (document 02, item 3) and the preview (document 01, "Cutting radius and preview").
 
 use crate::geometry::{Disk, Point};
+use crate::limits::EM;
 use crate::record;
 use crate::refusal::Refusal;
 
 /// The least whole R with R²E² greater than S (document 01: the cutting radius): refusals 7, 15.
 pub fn whole_radius(disk: &Disk, support: &[Point]) -> Result<u64, Refusal> {
-    record::check(disk, support)?;
+    record::check(disk, support, &EM)?;
     Ok(least_radius(disk))
 }
 
 /// R·E is above the root of S exactly if it is above the root rounded down.
 fn least_radius(disk: &Disk) -> u64 {
-    let (s, e) = (disk.s.unsigned_abs(), disk.e.unsigned_abs());
-    u64::try_from(s.isqrt() / e + 1).expect("a valid disk's radius is at most 708")
+    u64::try_from(disk.s.isqrt() / disk.e.unsigned_abs() + 1).expect("a valid disk's radius is at most 1,449")
 }
 
 /// The centre and the whole radius as floats.
@@ -48,13 +48,21 @@ mod tests {
     fn the_radius_is_the_least_and_its_circle_keeps_off_every_point() {
         for case in lists::mixed(2_000, 40) {
             let answer = engine::solve(&mut engine::flat(&case.points)).unwrap();
-            let r = i128::from(whole_radius(&answer.disk, &answer.support).unwrap());
-            let square = |r: i128| r * r * answer.disk.e * answer.disk.e;
-            let keeps_off = |r: i128| case.points.iter().all(|&p| answer.disk.scaled_square_distance(p) < square(r));
+            let r = u128::from(whole_radius(&answer.disk, &answer.support).unwrap());
+            let square = |r: u128| (r * answer.disk.e.unsigned_abs()).pow(2);
+            let keeps_off = |r: u128| case.points.iter().all(|&p| answer.disk.scaled_square_distance(p) < square(r));
             assert!(square(r) > answer.disk.s && keeps_off(r), "{}", case.name);
             assert!(square(r - 1) <= answer.disk.s && !keeps_off(r - 1), "{}", case.name);
-            assert!((1..=708).contains(&r), "{}", case.name);
+            assert!((1..=1_449).contains(&r), "{}", case.name);
         }
+    }
+
+    /// Opposite corners of the em box.
+    #[test]
+    fn the_largest_radius() {
+        let disk = Disk { x: 1024, y: 512, e: 1, s: 2_097_152 };
+        assert_eq!(whole_radius(&disk, &points(&[(0, -512), (2048, 1536)])), Ok(1_449));
+        assert_eq!(whole_radius(&disk, &points(&[(0, 1536), (2048, -512)])), Ok(1_449));
     }
 
     #[test]

@@ -1,6 +1,6 @@
 //! Points, disks and containment (document 01, "Disk and rim").
 
-use crate::limits::{FOOT, LEFT, MOST_E, MOST_SQUARE, RIGHT, TOP};
+use crate::limits::{Limits, EM};
 
 /// A point (document 01: a corner). Points are ordered by x, then y.
 #[derive(Clone, Copy, PartialEq, Eq, PartialOrd, Ord, Hash, Debug)]
@@ -14,8 +14,13 @@ impl Point {
         Point { x, y }
     }
 
+    /// Whether it is in the em box of the 2,048 units.
     pub fn is_in_em_box(self) -> bool {
-        (LEFT..=RIGHT).contains(&self.x) && (FOOT..=TOP).contains(&self.y)
+        self.is_in(&EM)
+    }
+
+    pub fn is_in(self, em: &Limits) -> bool {
+        (em.left..=em.right).contains(&self.x) && (em.foot..=em.top).contains(&self.y)
     }
 
     pub fn wide(self) -> (i128, i128) {
@@ -28,13 +33,13 @@ impl Point {
     }
 }
 
-/// Centre (x/e, y/e), squared radius s/e² (document 01: X, Y, E, S).
+/// Centre (x/e, y/e), squared radius s/e² (document 01: X, Y, E, S). A caller's S is any number of 128 bits.
 #[derive(Clone, Copy, PartialEq, Eq, Debug)]
 pub struct Disk {
     pub x: i128,
     pub y: i128,
     pub e: i128,
-    pub s: i128,
+    pub s: u128,
 }
 
 pub fn gcd(a: i128, b: i128) -> i128 {
@@ -90,10 +95,9 @@ impl Disk {
     }
 
     /// (xE − X)² + (yE − Y)², to be compared with S.
-    pub fn scaled_square_distance(&self, p: Point) -> i128 {
+    pub fn scaled_square_distance(&self, p: Point) -> u128 {
         let (x, y) = p.wide();
-        let (dx, dy) = (x * self.e - self.x, y * self.e - self.y);
-        dx * dx + dy * dy
+        square_of(x * self.e - self.x, y * self.e - self.y)
     }
 
     pub fn holds(&self, p: Point) -> bool {
@@ -109,20 +113,25 @@ impl Disk {
         points.iter().all(|&p| self.holds(p))
     }
 
-    /// Whether E, the centre and the radius are within the limits of every smallest disk. E comes first: with a larger one the
-    /// products could overflow.
-    pub fn is_within_limits(&self) -> bool {
+    /// Whether E, the centre and the radius are within the limits of every smallest disk of the em box. E comes first: with a larger one
+    /// the products could overflow.
+    pub fn is_within(&self, em: &Limits) -> bool {
         let scaled = |least: i16, most: i16| i128::from(least) * self.e..=i128::from(most) * self.e;
-        (1..=MOST_E).contains(&self.e)
-            && scaled(LEFT, RIGHT).contains(&self.x)
-            && scaled(FOOT, TOP).contains(&self.y)
-            && (0..=MOST_SQUARE * self.e * self.e).contains(&self.s)
+        (1..=em.most_e).contains(&self.e)
+            && scaled(em.left, em.right).contains(&self.x)
+            && scaled(em.foot, em.top).contains(&self.y)
+            && self.s <= (em.most_square * self.e * self.e).unsigned_abs()
     }
 
     /// Whether the radius is below the other's.
     pub fn is_smaller_than(&self, other: &Disk) -> bool {
-        self.s * other.e * other.e < other.s * self.e * self.e
+        self.s * (other.e * other.e).unsigned_abs() < other.s * (self.e * self.e).unsigned_abs()
     }
+}
+
+/// dx² + dy²
+pub fn square_of(dx: i128, dy: i128) -> u128 {
+    (dx * dx + dy * dy).unsigned_abs()
 }
 
 #[cfg(test)]
@@ -138,9 +147,9 @@ mod tests {
 
     #[test]
     fn the_circle_does_not_depend_on_the_order() {
-        let [a, b, c] = [Point::new(0, -250), Point::new(1000, -247), Point::new(1, 750)];
+        let [a, b, c] = [Point::new(0, -512), Point::new(2048, -509), Point::new(1, 1536)];
         let disk = Disk::of_three(a, b, c).unwrap();
-        assert_eq!(disk.e, 1_999_994);
+        assert_eq!(disk.e, 8_388_602);
         for other in [Disk::of_three(b, a, c), Disk::of_three(c, b, a), Disk::of_three(b, c, a)] {
             assert_eq!(other, Some(disk));
         }

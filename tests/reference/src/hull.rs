@@ -94,6 +94,7 @@ mod tests {
     use crate::geometry::Disk;
     use crate::lists::{self, Kind};
     use crate::random::Random;
+    use crate::record::LONG;
     use crate::smallest::smallest_disk;
     use crate::support::{first_support_set, SupportSet};
     use crate::{engine, figures, record};
@@ -170,7 +171,7 @@ mod tests {
         let disk = smallest_disk(points);
         let support = first_support_set(points, &disk);
         let radius = figures::whole_radius(&disk, &support);
-        let bytes = record::bytes_of(&disk, &support);
+        let bytes = record::bytes_of(&LONG, &disk, &support);
         (disk, support, radius, bytes)
     }
 

@@ -8,7 +8,7 @@ pub struct Letter {
     pub name: &'static str,
     pub list: &'static [(i16, i16)],
     /// X, Y, E, S.
-    pub disk: (i128, i128, i128, i128),
+    pub disk: (i128, i128, i128, u128),
     pub support: &'static [(i16, i16)],
     pub radius: u64,
     pub tests: u64,

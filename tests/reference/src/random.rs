@@ -28,6 +28,12 @@ impl Random {
         least + (self.word() % (most - least + 1) as u64) as i64
     }
 
+    /// A number from 0 to `most`, which is below 2¹²⁷.
+    pub fn up_to(&mut self, most: u128) -> u128 {
+        let [high, low] = [self.word(), self.word()].map(u128::from);
+        (high << 64 | low) % (most + 1)
+    }
+
     /// A coordinate from `least` to `most`.
     pub fn coordinate(&mut self, least: i16, most: i16) -> i16 {
         self.between(i64::from(least), i64::from(most)) as i16

@@ -29,6 +29,7 @@ pub fn farthest_outside(disk: &Disk, points: &[Point]) -> Option<Point> {
 #[cfg(test)]
 mod tests {
     use super::*;
+    use crate::limits::EM;
     use crate::lists;
 
     #[test]
@@ -43,7 +44,7 @@ mod tests {
         for case in lists::mixed(2_000, 60) {
             let disk = smallest_disk(&case.points);
             assert!(disk.holds_all(&case.points), "{}", case.name);
-            assert!(disk.is_within_limits(), "{}", case.name);
+            assert!(disk.is_within(&EM), "{}", case.name);
         }
     }
 

@@ -4,12 +4,12 @@ use crate::chosen::{self, Chosen};
 use crate::damage;
 use crate::description::describe;
 use crate::edges;
-use crate::engine::flat;
+use crate::engine::{flat, points_of};
 use crate::geometry::Point;
 use crate::hull;
 use crate::inputs::{ChosenCase, FixedCase};
 use crate::letters;
-use crate::limits::{LIST_LENGTH, MOST_POINTS, MOST_TOLERANCE, MOST_TRACED};
+use crate::limits::{EM, LIST_LENGTH, MOST_POINTS, MOST_TOLERANCE, MOST_TRACED};
 use crate::lists::{self, Kind, KINDS};
 use crate::random::Random;
 use crate::traced::{self, TracedPoint};
@@ -24,7 +24,6 @@ pub fn stored() -> Vec<Vector> {
     let texts = letter_texts().into_iter().chain(edge_texts());
     let lists = circles_in_every_order().into_iter().chain(stored_lists()).map(|points| describe(&points));
     let mut vectors: Vec<Vector> = texts.chain(lists).map(from_description).collect();
-    vectors.extend([vec![1; 8_194], vec![1; 8_193], vec![]].into_iter().map(engine));
     vectors.extend(edges());
     vectors.extend(damaged(&mut Random::new(1), 500));
     vectors.extend(appended(&mut Random::new(2), 1_000));
@@ -98,13 +97,17 @@ fn stored_with_two_fixed() -> impl Iterator<Item = FixedCase> {
 /// Lists of 4,096 points with two points fixed: two corners of the em box; two points of its edge next to each other, whose disk has its
 /// centre far away; two such points in its middle, with no disk.
 fn long_with_two_fixed() -> [FixedCase; 3] {
-    let pairs = [((0, -250), (1000, -250)), ((0, -250), (1, -250)), ((500, 250), (501, 250))];
-    pairs.map(|(a, b)| {
-        let [a, b] = [a, b].map(|(x, y)| Point::new(x, y));
-        let mut points = lists::draw(Kind::Uniform, MOST_POINTS, &mut Random::new(4));
-        points.iter_mut().for_each(|p| p.y = p.y.max(-249));
-        FixedCase { a, b, points }
-    })
+    let at = |x: i16, y: i16| Point::new(EM.left + x, EM.foot + y);
+    let half = EM.side() / 2;
+    let pairs = [(at(0, 0), at(EM.side(), 0)), (at(0, 0), at(1, 0)), (at(half, half), at(half + 1, half))];
+    pairs.map(|(a, b)| FixedCase { a, b, points: above_the_foot(&mut Random::new(4)) })
+}
+
+/// 4,096 points of the em box, none of them on its lower edge.
+fn above_the_foot(random: &mut Random) -> Vec<Point> {
+    let mut points = lists::draw(Kind::Uniform, MOST_POINTS, random);
+    points.iter_mut().for_each(|p| p.y = p.y.max(EM.foot + 1));
+    points
 }
 
 /// `count` lists of up to 45 points with one or two chosen.
@@ -119,11 +122,11 @@ fn stored_with_chosen() -> impl Iterator<Item = ChosenCase> {
 /// Lists of 4,096 points with chosen ones: a point of the em box's edge, and two next to each other, whose disks have their centres far
 /// away; a point in its middle, with no disk.
 fn long_with_chosen() -> [ChosenCase; 3] {
-    let [one, next, middle] = [(500, -250), (501, -250), (500, 250)].map(|(x, y)| Point::new(x, y));
+    let half = EM.side() / 2;
+    let [one, next, middle] = [(half, 0), (half + 1, 0), (half, half)].map(|(x, y)| Point::new(EM.left + x, EM.foot + y));
     [Chosen::One(one), Chosen::Two(one, next), Chosen::One(middle)].map(|chosen| {
         let set = chosen.set();
-        let mut points = lists::draw(Kind::Uniform, MOST_POINTS, &mut Random::new(6));
-        points.iter_mut().for_each(|p| p.y = p.y.max(-249));
+        let mut points = above_the_foot(&mut Random::new(6));
         points[MOST_POINTS / 2..][..set.len()].copy_from_slice(&set);
         ChosenCase { chosen, unused: one, list: flat(&points) }
     })
@@ -164,15 +167,17 @@ fn letter_texts() -> Vec<Vec<u8>> {
     letters::LETTERS.iter().map(|letter| describe(&letters::points(letter.list))).collect()
 }
 
-/// The descriptions at the edges of document 01, those for lists of other lengths left out, and a disk with a large E.
+/// The descriptions at the edges of document 01, those for lists of other lengths left out, and those of the short lists for the engine.
 fn edge_texts() -> impl Iterator<Item = Vec<u8>> {
     let edges = edges::descriptions().into_iter().map(|edge| edge.given).filter(|given| given.room > LIST_LENGTH);
-    edges.map(|given| given.text).chain([b"0 -250\n1000 -247\n1 750".to_vec()])
+    let lists = edges::solvings().into_iter().map(|edge| edge.given).filter(|list| list.len() < 20);
+    edges.map(|given| given.text).chain(lists.map(|list| describe(&points_of(&list))))
 }
 
 /// The edges of document 01, each for its own call.
 fn edges() -> Vec<Vector> {
     let mut vectors: Vec<Vector> = Vec::new();
+    vectors.extend(edges::solvings().into_iter().map(|edge| engine(edge.given)));
     vectors.extend(edges::descriptions().iter().map(|edge| loader(&edge.given)));
     vectors.extend(edges::fixings().iter().map(|edge| fixed(&edge.given)));
     vectors.extend(edges::drawings().iter().map(|edge| append(&edge.given)));
@@ -253,8 +258,8 @@ mod tests {
             of_size.filter_map(|case| through_chosen(case).ok()).collect::<Vec<Disk>>()
         };
         let [one, two] = [through(1), through(2)];
-        assert!(one.len() >= 300 && two.len() >= 300);
-        let is_outside = |disk: &&Disk| disk.x < 0 || disk.x > 1000 * disk.e || disk.y < -250 * disk.e || disk.y > 750 * disk.e;
+        assert!(one.len() >= 250 && two.len() >= 250);
+        let is_outside = |disk: &&Disk| !Disk { s: 0, ..**disk }.is_within(&EM);
         assert!([one, two].iter().all(|disks| disks.iter().filter(is_outside).count() >= 20));
     }
 
@@ -320,7 +325,7 @@ mod tests {
     fn long_lists_keep_few_points_and_many() {
         let mut kept: Vec<usize> = hull::long().iter_mut().map(|list| reduce_to_hull(list).unwrap()).collect();
         kept.sort_unstable();
-        assert!(kept.len() >= 8 && kept[0] <= 4 && kept[kept.len() - 1] == 344, "{kept:?}");
+        assert!(kept.len() >= 8 && kept[0] <= 4 && kept[kept.len() - 1] == 560, "{kept:?}");
     }
 
     /// The writer's answer is the line before the last.
@@ -335,6 +340,44 @@ mod tests {
         let read = ["disk", "refused 7", "refused 15"].map(|start| times(Call::Reader, start));
         let written = ["written", "refused 7", "refused 8", "refused 15"].map(|start| times(Call::Writer, start));
         assert!(read.iter().all(|&number| number >= 200) && written.iter().all(|&number| number >= 120), "{read:?} {written:?}");
+    }
+
+    /// S of the disks that a case prints.
+    fn printed_squares(vector: &Vector) -> impl Iterator<Item = u128> + '_ {
+        let disks = vector.printed.lines().filter_map(|line| line.strip_prefix("disk "));
+        disks.filter_map(|numbers| numbers.rsplit(' ').next()?.parse().ok())
+    }
+
+    #[test]
+    fn an_s_above_64_bits_is_among_the_cases_of_each_call() {
+        let vectors = stored();
+        let times = |call: Call, least: u128, most: u128| {
+            let is_so = |v: &&Vector| v.call == call && printed_squares(v).any(|s| (least..=most).contains(&s));
+            vectors.iter().filter(is_so).count()
+        };
+        use Call::*;
+        for call in [Listing, Engine, Append, Fixed, Chosen, Traced, Hull, Reader] {
+            let [half, above] = [times(call, 1 << 63, u64::MAX.into()), times(call, 1 << 64, u128::MAX)];
+            assert!(half >= 2 && above >= 10, "{call:?}: {half} {above}");
+        }
+        let is_written = |v: &&Vector| v.call == Writer && v.printed.contains("written") && v.bytes[26..34] != [0; 8];
+        assert!(vectors.iter().filter(is_written).count() >= 20);
+    }
+
+    /// Of 45 bytes, and of 53.
+    #[test]
+    fn records_of_both_forms_with_every_kind_of_answer_are_among_the_cases() {
+        let vectors = stored();
+        for length in [45, 53] {
+            for start in ["disk", "refused 7", "refused 15"] {
+                let is_so = |v: &&Vector| v.call == Call::Reader && v.bytes.len() == length && v.printed.starts_with(start);
+                let times = vectors.iter().filter(is_so).count();
+                assert!(times >= 150, "{length} bytes, {start}: {times}");
+            }
+        }
+        let other = |v: &&Vector| v.call == Call::Reader && ![45, 53].contains(&v.bytes.len());
+        assert!(vectors.iter().filter(other).all(|v| v.printed == "refused 7\n"));
+        assert!([0, 1, 44, 46, 52, 54, 106].iter().all(|length| vectors.iter().filter(other).any(|v| v.bytes.len() == *length)));
     }
 
     #[test]

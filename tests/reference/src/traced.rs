@@ -9,8 +9,8 @@
 //! lists it must be the least of the disks of one, two and three corners that hold all squares by the same inequality.
 
 use crate::definition::{by_definition, least_that_fits};
-use crate::geometry::{Disk, Point};
-use crate::limits::{FOOT, LEFT, MOST_TOLERANCE, MOST_TRACED, RIGHT, TOP};
+use crate::geometry::{square_of, Disk, Point};
+use crate::limits::{EM, MOST_TOLERANCE, MOST_TRACED};
 use crate::refusal::Refusal;
 use crate::support::first_support_set;
 
@@ -38,15 +38,15 @@ impl TracedPoint {
     /// Whether its square stays in the em box.
     fn is_in_em_box(self) -> bool {
         let (x, y, t) = self.wide();
-        x - t >= LEFT.into() && x + t <= RIGHT.into() && y - t >= FOOT.into() && y + t <= TOP.into()
+        x - t >= EM.left.into() && x + t <= EM.right.into() && y - t >= EM.foot.into() && y + t <= EM.top.into()
     }
 
     /// The greatest (aE − X)² + (bE − Y)² of all places (a, b) of its square, to be compared with S.
-    fn farthest_square_distance(self, disk: &Disk) -> i128 {
+    fn farthest_square_distance(self, disk: &Disk) -> u128 {
         let (x, y, t) = self.wide();
         let dx = (x * disk.e - disk.x).abs() + t * disk.e;
         let dy = (y * disk.e - disk.y).abs() + t * disk.e;
-        dx * dx + dy * dy
+        square_of(dx, dy)
     }
 
     /// Whether the disk holds its whole square.
@@ -195,7 +195,7 @@ mod tests {
     fn holds_place(disk: &Disk, p: TracedPoint, [a, b, d]: [i128; 3]) -> bool {
         let (x, y, t) = p.wide();
         let (dx, dy) = ((x * d + t * a) * disk.e - disk.x * d, (y * d + t * b) * disk.e - disk.y * d);
-        dx * dx + dy * dy <= disk.s * d * d
+        square_of(dx, dy) <= disk.s * square_of(d, 0)
     }
 
     /// A part of t in x and one in y, with their denominator: as a rule within the square, at times on a side or in a corner.
@@ -247,7 +247,7 @@ mod tests {
     #[test]
     fn answers_keep_to_the_limits_of_document_01() {
         for traced in drawn_lists(10, 2_000, 60) {
-            assert!(smallest_by_places(&traced).is_within_limits(), "{traced:?}");
+            assert!(smallest_by_places(&traced).is_within(&EM), "{traced:?}");
         }
     }
 }

@@ -8,7 +8,7 @@
 
 use crate::geometry::{cross, scalar, Disk, Point};
 use crate::inputs::FixedCase;
-use crate::limits::{FOOT, LEFT, RIGHT, TOP};
+use crate::limits::EM;
 use crate::lists::{self, Kind, KINDS};
 use crate::random::Random;
 use std::cmp::Ordering;
@@ -63,15 +63,17 @@ fn disk_at(a: Point, b: Point, t: Fraction) -> Disk {
 
 // ---- drawn lists
 
-/// Two different points and up to `longest` points: of any kind, to one side of the two, near their row, in it, or on a circle with them.
+/// Two different points and up to `longest` points: of any kind, to one side of the two, near their row, in it, on a circle with them, or with
+/// one of the list far from both.
 pub fn draw(longest: usize, random: &mut Random) -> FixedCase {
     let n = random.below(longest + 1);
     let (a, b) = two_points(random);
-    let mut case = match random.below(5) {
+    let mut case = match random.below(6) {
         0 => FixedCase { a, b, points: lists::draw(random.pick(&KINDS), n.max(1), random) },
         1 => FixedCase { a, b, points: to_one_side(a, b, n, random) },
         2 => near_a_row(n, random),
         3 => in_a_row(n, random),
+        4 => far_apart(n, random),
         _ => on_a_circle(n, random),
     };
     case.points.truncate(n);
@@ -80,13 +82,13 @@ pub fn draw(longest: usize, random: &mut Random) -> FixedCase {
 
 /// Anywhere in the em box, or close to each other.
 fn two_points(random: &mut Random) -> (Point, Point) {
-    let reach = random.pick(&[1, 3, 30, RIGHT]);
+    let reach = random.pick(&[1, 3, 30, EM.side()]);
     let a = lists::draw(Kind::Uniform, 1, random)[0];
     let near = |least: i16, middle: i16, most: i16, random: &mut Random| {
         random.coordinate((middle - reach).max(least), (middle + reach).min(most))
     };
     loop {
-        let b = Point::new(near(LEFT, a.x, RIGHT, random), near(FOOT, a.y, TOP, random));
+        let b = Point::new(near(EM.left, a.x, EM.right, random), near(EM.foot, a.y, EM.top, random));
         if b != a {
             return (a, b);
         }
@@ -102,11 +104,11 @@ fn to_one_side(a: Point, b: Point, n: usize, random: &mut Random) -> Vec<Point> 
 /// Two points next to each other, and points up to three units above their row: the centre is far away. In one case of three some are
 /// below, and as a rule there is no disk.
 fn near_a_row(n: usize, random: &mut Random) -> FixedCase {
-    let (x, y) = (random.coordinate(LEFT, RIGHT - 1), random.coordinate(FOOT + 3, TOP - 3));
+    let (x, y) = (random.coordinate(EM.left, EM.right - 1), random.coordinate(EM.foot + 3, EM.top - 3));
     let below = if random.chance(33) { 50 } else { 0 };
     let beside = |random: &mut Random| {
         let height = random.coordinate(1, 3);
-        Point::new(random.coordinate(LEFT, RIGHT), if random.chance(below) { y - height } else { y + height })
+        Point::new(random.coordinate(EM.left, EM.right), if random.chance(below) { y - height } else { y + height })
     };
     FixedCase { a: Point::new(x, y), b: Point::new(x + 1, y), points: (0..n).map(|_| beside(random)).collect() }
 }
@@ -120,6 +122,16 @@ fn in_a_row(n: usize, random: &mut Random) -> FixedCase {
             return FixedCase { a, b, points: points.split_off(2) };
         }
     }
+}
+
+/// Three points near the edges of the em box, far apart: two of them, and the third among the others.
+fn far_apart(n: usize, random: &mut Random) -> FixedCase {
+    let mut points = lists::draw(Kind::Wide, n + 3, random);
+    points.sort_by_key(|&p| scalar(lists::middle_of(&EM), lists::middle_of(&EM), p));
+    let far = points.split_off(n);
+    points.push(far[0]);
+    random.shuffle(&mut points);
+    FixedCase { a: far[1], b: far[2], points }
 }
 
 /// Points on and in a circle through the two.

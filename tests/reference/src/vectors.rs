@@ -12,7 +12,7 @@ use crate::hull::reduce_to_hull;
 use crate::inputs::{AppendCase, ChosenCase, FixedCase, LoaderCase, PartCase, SheetCase, WriterCase};
 use crate::listing;
 use crate::procedure::{self, Cover};
-use crate::record;
+use crate::record::{self, LONG};
 use crate::refusal::Refusal;
 use crate::sheet;
 use crate::traced::smallest_disk_of_traced;
@@ -48,7 +48,7 @@ pub enum Call {
     Sheet = b'S' as isize,
     /// A part of a sheet, by its place.
     Part = b'P' as isize,
-    /// The record reader, then cutting radius and preview.
+    /// The record reader, then cutting radius, preview and record writer.
     Reader = b'R' as isize,
     /// Cutting radius, preview and record writer.
     Writer = b'W' as isize,
@@ -227,12 +227,16 @@ fn part_printed(bytes: &[u8], start: usize, length: usize) -> String {
     format!("bytes {} {}\n", part.len(), byte_checksum(part))
 }
 
+/// The length of the buffer that a record is written to again.
+const AGAIN: u8 = 64;
+
+/// The disk and points of a record, and what the writer makes of them.
 pub fn reader(bytes: Vec<u8>) -> Vector {
     let printed = match record::read(&bytes) {
         Ok((disk, support)) => {
             let Disk { x, y, e, s } = disk;
             let read = format!("disk {x} {y} {e} {s}\nrim{}\n", listing::coordinates(&support));
-            read + &figures_printed(&disk, &support)
+            read + &figures_printed(&disk, &support) + &written_printed(&disk, &support, AGAIN)
         }
         Err(refusal) => listing::refused(refusal),
     };
@@ -255,24 +259,28 @@ fn figures_printed(disk: &Disk, support: &[Point]) -> String {
     whole + &preview
 }
 
-/// The buffer's length and the number of points, a byte each, then a record's disk and points, the last repeated. The buffer
-/// holds 238 everywhere before the call; its checksum after it is printed.
-pub fn writer(case: &WriterCase) -> Vector {
-    let count = case.support.len() as u8;
-    let bytes = [vec![case.room, count], record::disk_and_points(&case.disk, &case.support)].concat();
-    let mut buffer = vec![238; case.room.into()];
-    let written = match record::write(&case.disk, &case.support, &mut buffer) {
+/// What the writer answers with a buffer of this length, which holds 238 everywhere before the call, and the checksum of the buffer after it.
+fn written_printed(disk: &Disk, support: &[Point], room: u8) -> String {
+    let mut buffer = vec![238; room.into()];
+    let written = match record::write(disk, support, &mut buffer) {
         Ok(()) => "written\n".to_string(),
         Err(refusal) => listing::refused(refusal),
     };
-    let left = format!("buffer {}\n", byte_checksum(&buffer));
-    let printed = figures_printed(&case.disk, &case.support) + &written + &left;
+    written + &format!("buffer {}\n", byte_checksum(&buffer))
+}
+
+/// The buffer's length and the number of points, a byte each, then the disk and points of a record of 53 bytes, the last point repeated.
+pub fn writer(case: &WriterCase) -> Vector {
+    let count = case.support.len() as u8;
+    let bytes = [vec![case.room, count], record::disk_and_points(&LONG, &case.disk, &case.support)].concat();
+    let printed = figures_printed(&case.disk, &case.support) + &written_printed(&case.disk, &case.support, case.room);
     Vector { call: Call::Writer, bytes, printed }
 }
 
 #[cfg(test)]
 mod tests {
     use super::*;
+    use crate::record::SHORT;
 
     #[test]
     fn chosen_points_stand_before_their_list() {
@@ -304,6 +312,34 @@ mod tests {
         assert_eq!(vector.printed, format!("points 3\nlist {list}\n{letter_f}left {left}\n"));
         let list = list_checksum(&[4, 0, -1]);
         assert_eq!(hull(vec![4, 0, -1]).printed, format!("refused 9\nlist {list}\n"));
+    }
+
+    /// Letter C in 45 bytes and in 53: read the same, and written again in 53, with eleven bytes of the buffer left.
+    #[test]
+    fn a_record_that_is_read_is_written_again() {
+        let (disk, support) = (Disk { x: 2, y: 0, e: 1, s: 4 }, [Point::new(0, 0), Point::new(4, 0)]);
+        let long = record::bytes_of(&LONG, &disk, &support);
+        let buffer = byte_checksum(&[&long[..], &[238; 11]].concat());
+        let figures = "whole 3\npreview 4000000000000000 0000000000000000 4008000000000000\n";
+        let printed = format!("disk 2 0 1 4\nrim 0 0 4 0\n{figures}written\nbuffer {buffer}\n");
+        for form in [SHORT, LONG] {
+            let vector = reader(record::bytes_of(&form, &disk, &support));
+            assert_eq!((vector.call as u8, vector.bytes.len()), (b'R', form.length()));
+            assert_eq!(vector.printed, printed);
+        }
+        assert_eq!(reader(long[..52].to_vec()).printed, "refused 7\n");
+    }
+
+    /// S in 16 bytes, from byte 26 on.
+    #[test]
+    fn a_case_for_the_writer_has_54_bytes() {
+        let disk = Disk { x: -2, y: 3, e: 5, s: (7 << 64) + 9 };
+        let vector = writer(&WriterCase { room: 52, disk, support: vec![Point::new(1, -1), Point::new(2, 258)] });
+        let words = [-2i64, 3, 5, 7, 9].map(i64::to_be_bytes).concat();
+        assert_eq!(vector.bytes, [&[52, 2], &words[..], &[0, 1, 255, 255, 0, 2, 1, 2, 0, 2, 1, 2]].concat());
+        assert_eq!(vector.bytes.len(), 54);
+        let left = byte_checksum(&[238; 52]);
+        assert_eq!(vector.printed, format!("refused 7\nrefused 7\nrefused 8\nbuffer {left}\n"));
     }
 
     #[test]

@@ -5,7 +5,7 @@
 //! worst kind found, with some 8.2 million tests. For short lists [`climb`] comes nearer to the bound.
 
 use crate::geometry::Point;
-use crate::limits::{FOOT, LEFT, RIGHT, TOP};
+use crate::limits::EM;
 use crate::lists::{draw, Kind};
 use crate::procedure;
 use crate::random::Random;
@@ -35,7 +35,7 @@ fn changed(points: &[Point], random: &mut Random) -> Vec<Point> {
     let mut next = points.to_vec();
     let (i, j) = (random.below(next.len()), random.below(next.len()));
     match random.below(4) {
-        0 => next[i] = Point::new(random.coordinate(LEFT, RIGHT), random.coordinate(FOOT, TOP)),
+        0 => next[i] = draw(Kind::Uniform, 1, random)[0],
         1 => next[i] = nudged(next[i], random),
         2 => next.swap(i, j),
         _ => {
@@ -48,8 +48,8 @@ fn changed(points: &[Point], random: &mut Random) -> Vec<Point> {
 
 fn nudged(p: Point, random: &mut Random) -> Point {
     let reach = random.pick(&[1, 5, 40]);
-    let x = (p.x + random.coordinate(-reach, reach)).clamp(LEFT, RIGHT);
-    let y = (p.y + random.coordinate(-reach, reach)).clamp(FOOT, TOP);
+    let x = (p.x + random.coordinate(-reach, reach)).clamp(EM.left, EM.right);
+    let y = (p.y + random.coordinate(-reach, reach)).clamp(EM.foot, EM.top);
     Point::new(x, y)
 }
 
@@ -57,13 +57,13 @@ fn nudged(p: Point, random: &mut Random) -> Point {
 pub const CLIMBS: [(usize, u64, usize); 11] = [
     (3, 9, 100),
     (4, 19, 300),
-    (5, 38, 1_000),
+    (5, 39, 1_000),
     (6, 59, 1_000),
-    (8, 34, 3_000),
-    (12, 27, 3_000),
+    (8, 176, 3_000),
+    (12, 54, 3_000),
     (16, 29, 3_000),
     (24, 11, 3_000),
-    (32, 1, 3_000),
+    (32, 11, 3_000),
     (48, 3, 3_000),
     (64, 1, 3_000),
 ];
@@ -87,6 +87,6 @@ mod tests {
     #[test]
     fn climbs_are_far_above_drawn_lists() {
         let counts: Vec<u64> = short_lists().iter().map(|points| tests_of(points)).collect();
-        assert_eq!(counts, [7, 14, 25, 38, 81, 177, 283, 530, 892, 1_927, 3_450]);
+        assert_eq!(counts, [7, 14, 25, 38, 80, 179, 293, 530, 928, 1_935, 3_481]);
     }
 }

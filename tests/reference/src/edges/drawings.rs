@@ -29,14 +29,18 @@ const FLOATS: [(&str, &[Row]); 6] = [
         (0x3FF0_0000_0000_0000, Ok(1), Ok(1)),       // 1
         (0x4008_0000_0000_0000, Ok(3), Ok(3)),       // 3
         (0x4087_7000_0000_0000, Ok(750), Ok(750)),   // 750
+        (0x4087_7800_0000_0000, Ok(751), Ok(751)),   // 751
+        (0x408F_4800_0000_0000, Ok(1001), Ok(1001)), // 1001
+        (0x4098_0000_0000_0000, Ok(1536), Ok(1536)), // 1536
     ]),
     ("3: a corner outside the em box", &[
-        (0x4087_7800_0000_0000, Ok(751), Err(3)),    // 751
-        (0x408F_4000_0000_0000, Ok(1000), Err(3)),   // 1000
-        (0x408F_4800_0000_0000, Err(3), Err(3)),     // 1001
+        (0x4098_0400_0000_0000, Ok(1537), Err(3)),   // 1537
+        (0x40A0_0000_0000_0000, Ok(2048), Err(3)),   // 2048
+        (0x40A0_0200_0000_0000, Err(3), Err(3)),     // 2049
         (0xBFF0_0000_0000_0000, Err(3), Ok(-1)),     // −1
-        (0xC06F_4000_0000_0000, Err(3), Ok(-250)),   // −250
-        (0xC06F_6000_0000_0000, Err(3), Err(3)),     // −251
+        (0xC06F_6000_0000_0000, Err(3), Ok(-251)),   // −251
+        (0xC080_0000_0000_0000, Err(3), Ok(-512)),   // −512
+        (0xC080_0800_0000_0000, Err(3), Err(3)),     // −513
         (0x40F0_0000_0000_0000, Err(3), Err(3)),     // 2^16
         (0xC0F0_0000_0000_0000, Err(3), Err(3)),     // −2^16
         (0x40F0_0050_0000_0000, Err(3), Err(3)),     // 2^16 + 5
@@ -47,9 +51,12 @@ const FLOATS: [(&str, &[Row]); 6] = [
         (0x3FE0_0000_0000_0000, Err(11), Err(11)),   // 0.5
         (0xBFE0_0000_0000_0000, Err(11), Err(11)),   // −0.5
         (0x3FB9_9999_9999_999A, Err(11), Err(11)),   // 0.1
-        (0x408F_3FFF_FFFF_FFFF, Err(11), Err(11)),   // the float below 1000
-        (0x408F_4000_0000_0001, Err(11), Err(11)),   // the one above
-        (0xC06F_3FFF_FFFF_FFFF, Err(11), Err(11)),   // the float above −250
+        (0x409F_FFFF_FFFF_FFFF, Err(11), Err(11)),   // the float below 2048
+        (0x40A0_0000_0000_0001, Err(11), Err(11)),   // the one above
+        (0x4097_FFFF_FFFF_FFFF, Err(11), Err(11)),   // the float below 1536
+        (0x4098_0000_0000_0001, Err(11), Err(11)),   // the one above
+        (0xC07F_FFFF_FFFF_FFFF, Err(11), Err(11)),   // the float above −512
+        (0xC080_0000_0000_0001, Err(11), Err(11)),   // the one below
         (0x3FF0_0000_0000_0001, Err(11), Err(11)),   // the float above 1
         (0x432F_FFFF_FFFF_FFFF, Err(11), Err(11)),   // 2^52 − 1/2, the largest with a fraction
         (0xC32F_FFFF_FFFF_FFFF, Err(11), Err(11)),
@@ -99,12 +106,14 @@ fn wholes() -> Vec<Appending> {
     let says = "hands over a corner .. as two whole numbers. 3: a corner outside the em box";
     let rows = [
         ((0, 0), Ok((0, 0))),
-        ((1000, -250), Ok((1000, -250))),
-        ((0, 750), Ok((0, 750))),
-        ((1001, 0), Err(3)),
+        ((2048, -512), Ok((2048, -512))),
+        ((0, 1536), Ok((0, 1536))),
+        ((1001, 751), Ok((1001, 751))),
+        ((1001, -251), Ok((1001, -251))),
+        ((2049, 0), Err(3)),
         ((-1, 0), Err(3)),
-        ((0, 751), Err(3)),
-        ((0, -251), Err(3)),
+        ((0, 1537), Err(3)),
+        ((0, -513), Err(3)),
         ((65_536, 0), Err(3)),
         ((0, 65_536), Err(3)),
         ((-65_536, 5), Err(3)),
@@ -126,7 +135,7 @@ fn orders() -> Vec<Appending> {
         (Drawn(0.5, 0.0), 0, 0, Err(8)),
         (Drawn(0.0, f64::INFINITY), 4_096, 8_190, Err(8)),
         (Drawn(1e300, 0.0), 0, 8_191, Err(8)),
-        (Whole(1001, 0), 0, 8_191, Err(8)),
+        (Whole(2049, 0), 0, 8_191, Err(8)),
         (Whole(0, 0), 4_096, 8_191, Err(8)),
         (Whole(0, 0), u64::MAX, 0, Err(8)),
         // 11 with 3
@@ -141,8 +150,8 @@ fn orders() -> Vec<Appending> {
         (Drawn(0.0, -0.5), u64::MAX, AMPLE, Err(11)),
         (Drawn(5_000.0, 0.5), 4_097, AMPLE, Err(11)),
         // 3 with 4
-        (Whole(1001, 0), 4_096, AMPLE, Err(3)),
-        (Drawn(0.0, 751.0), 4_096, AMPLE, Err(3)),
+        (Whole(2049, 0), 4_096, AMPLE, Err(3)),
+        (Drawn(0.0, 1537.0), 4_096, AMPLE, Err(3)),
         (Drawn(1e300, 0.0), u64::MAX, AMPLE, Err(3)),
         (Drawn(0.0, -1e300), 4_097, 8_192, Err(3)),
     ];
@@ -163,7 +172,7 @@ fn places() -> Vec<Appending> {
 fn letters() -> Vec<Appending> {
     let says =
         "Whole and float corners of equal value, put behind the same corners, lead to the same disk, rim, record and count";
-    let fronts = [vec![0, 0, 4, 0], vec![1001, 0, 4, 0], vec![0, 0, 4, 0, 9, 9, -5]];
+    let fronts = [vec![0, 0, 4, 0], vec![2049, 0, 4, 0], vec![0, 0, 4, 0, 9, 9, -5]];
     let with = |front: Vec<i16>| {
         [Whole(2, 3), Drawn(2.0, 3.0)].map(|point| {
             let given = AppendCase { point, n: 2, room: 8_193, front: front.clone() };

@@ -5,28 +5,28 @@ use super::records::{writing, Numbers, Points, Writing};
 const SAYS: &str = "the cutting radius is the least whole R with R²E² greater than S (02, item 3)";
 
 pub fn writings() -> impl Iterator<Item = Writing> {
-    let triples = TRIPLES.iter().map(|&(numbers, support, radius)| writing(SAYS, 45, numbers, support, Ok(()), Ok(radius)));
+    let triples = TRIPLES.iter().map(|&(numbers, support, radius)| writing(SAYS, 53, numbers, support, Ok(()), Ok(radius)));
     opposite_points().chain(triples).chain(around_a_point())
 }
 
-/// For every whole radius that a letter can have, points that are opposite on its circle, where there are some, and at the nearest squares
-/// of distances below and above: the cutting radius is R below, and R + 1 there and above.
+/// For every whole radius that a letter can have, points that are opposite on its circle, where there are some, else at the nearest square of
+/// a distance above: the cutting radius is R + 1. And at the nearest square below: it is R.
 fn opposite_points() -> impl Iterator<Item = Writing> {
     let steps = steps_of_squares();
-    (1..=707).flat_map(move |r: usize| {
+    (1..=1448).flat_map(move |r: usize| {
         let square = 4 * r * r;
         let below = steps[..square].iter().rev().find_map(|&step| step);
-        let above = steps[square + 1..].iter().find_map(|&step| step);
-        let (r, next) = (r as u64, r as u64 + 1);
-        let rows = [below.map(|step| (step, r)), steps[square].map(|step| (step, next)), above.map(|step| (step, next))];
+        let from_there = steps[square..].iter().find_map(|&step| step);
+        let r = r as u64;
+        let rows = [below.map(|step| (step, r)), from_there.map(|step| (step, r + 1))];
         rows.into_iter().flatten().map(|(step, radius)| pair(step, radius))
     })
 }
 
 /// By the square of the distance of two points of the em box: how far one is to the right of the other, and how far above.
 fn steps_of_squares() -> Vec<Option<(i16, i16)>> {
-    let mut steps = vec![None; 2_000_001];
-    for (right, up) in (0..=1000).flat_map(|right| (0..=1000).map(move |up| (right, up))) {
+    let mut steps = vec![None; 8_388_609];
+    for (right, up) in (0..=2048).flat_map(|right| (0..=2048).map(move |up| (right, up))) {
         steps[right * right + up * up] = Some((right as i16, up as i16));
     }
     steps
@@ -35,25 +35,28 @@ fn steps_of_squares() -> Vec<Option<(i16, i16)>> {
 /// The lower left corner of the em box and a point to the right and above: E is 1 where their middle is whole, else 2.
 fn pair((right, up): (i16, i16), radius: u64) -> Writing {
     let (x, y) = (i128::from(right), i128::from(up));
-    let square = x * x + y * y;
+    let square = (x * x + y * y).unsigned_abs();
     let is_whole = x % 2 == 0 && y % 2 == 0;
-    let numbers = if is_whole { (x / 2, y / 2 - 250, 1, square / 4) } else { (x, y - 500, 2, square) };
-    writing(SAYS, 45, numbers, &[(0, -250), (right, up - 250)], Ok(()), Ok(radius))
+    let numbers = if is_whole { (x / 2, y / 2 - 512, 1, square / 4) } else { (x, y - 1024, 2, square) };
+    writing(SAYS, 53, numbers, &[(0, -512), (right, up - 512)], Ok(()), Ok(radius))
 }
 
 /// Disks about a single point or beside it, S at R²E², a step below and a step above: no letter has them.
 fn around_a_point() -> impl Iterator<Item = Writing> {
     let says = "the smallest disk of the named corners is the disk. 15 when it fails (02, item 9)";
-    let disks = [0, 1, 2, 353, 706, 707].into_iter().flat_map(|r| [(r, 0, 1), (r, 1, 2), (r, 1, 1_999_999)]);
-    let beside = disks.flat_map(|(r, x, e): (i128, i128, i128)| [-1, 0, 1].map(|step| (x, 0, e, (r * e).pow(2) + step)));
+    let disks = [0, 1, 2, 707, 708, 1447, 1448].into_iter().flat_map(|r| [(r, 0, 1), (r, 1, 2), (r, 1, 8_388_607)]);
+    let beside = disks.flat_map(|(r, x, e): (i128, i128, i128)| {
+        let s = (r * e).unsigned_abs().pow(2);
+        [s.checked_sub(1), Some(s), Some(s + 1)].into_iter().flatten().map(move |s| (x, 0, e, s))
+    });
     // S 0 about the point itself is letter A.
-    let wrong = beside.filter(|&(.., e, s)| s >= 0 && (e, s) != (1, 0));
-    wrong.map(move |numbers| writing(says, 45, numbers, &[(0, 0)], Err(15), Err(15)))
+    let wrong = beside.filter(|&(.., e, s)| (e, s) != (1, 0));
+    wrong.map(move |numbers| writing(says, 53, numbers, &[(0, 0)], Err(15), Err(15)))
 }
 
 /// Acute triangles, with E larger than pairs have it, and the cutting radius.
 #[rustfmt::skip]
-const TRIPLES: [(Numbers, Points, u64); 28] = [
+const TRIPLES: [(Numbers, Points, u64); 31] = [
     // S is R²E²: R + 1
     ((39, -1187, 5, 4_225), &[(0, -227), (11, -250), (19, -244)], 14),
     ((364, -977, 5, 207_025), &[(0, -250), (119, -117), (161, -173)], 92),
@@ -83,7 +86,10 @@ const TRIPLES: [(Numbers, Points, u64); 28] = [
     ((94_372_036, 63_055_593, 207_084, 4_015_465_894_852_345), &[(191, 151), (398, 605), (752, 381)], 306),
     ((247_137_691, 152_385_385, 632_370, 63_663_176_817_038_786), &[(263, -137), (328, 635), (723, 462)], 399),
     ((549_109_925, 244_950_763, 1_057_118, 236_462_669_229_376_850), &[(149, -41), (300, 636), (971, 144)], 460),
+    ((4_911_550_417, 1_337_072_451, 5_358_178, 31_172_362_043_426_802_250), &[(24, -288), (581, 1236), (1957, 191)], 1042),
+    ((5_236_784_533, 1_640_807_119, 5_430_382, 31_589_406_116_234_100_602), &[(141, -325), (1152, 1320), (1877, -186)], 1035),
     // S is above R²E² by less than E² / 100: R + 1
+    ((5_107_328_065, 5_530_808_691, 5_098_438, 27_845_497_680_398_308_090), &[(4, 1360), (837, 63), (2017, 1286)], 1036),
     ((58_546_359, -12_082_331, 128_150, 415_175_289_311_042), &[(298, -101), (542, 40), (569, -207)], 160),
     ((535_497_575, 195_308_017, 767_802, 174_460_165_934_513_570), &[(154, 279), (956, 733), (969, -217)], 545),
     ((645_955_167, 132_649_265, 1_284_202, 412_293_707_920_696_850), &[(91, -180), (362, 583), (967, -83)], 501),

@@ -4,7 +4,7 @@ use super::corners;
 use super::polygons::{any_polygon, full_polygon, least_step, overtopped, reordered, with_sides, Step};
 use crate::engine::flat;
 use crate::geometry::Point;
-use crate::limits::{FOOT, LEFT, MOST_POINTS, RIGHT, TOP};
+use crate::limits::{EM, MOST_POINTS};
 use crate::lists::{self, point_in_box, Kind, KINDS};
 use crate::random::Random;
 
@@ -33,7 +33,7 @@ fn draw_points(n: usize, random: &mut Random) -> Vec<Point> {
     random.pick(&DRAWS)(n, random)
 }
 
-/// Lists of 4,096 points: six kinds of `lists.rs`, six of the kinds here, and one with 344 corners.
+/// Lists of 4,096 points: six kinds of `lists.rs`, six of the kinds here, and one with 560 corners.
 pub fn long() -> Vec<Vec<i16>> {
     let mut random = Random::new(12);
     let plain = [Kind::Uniform, Kind::SmallBox, Kind::Circle, Kind::Convex, Kind::Outline, Kind::Edges];
@@ -50,12 +50,12 @@ pub(super) fn anywhere(random: &mut Random) -> Point {
 /// On one to eight columns, next to each other or anywhere, close together or up and down the em box.
 fn on_columns(n: usize, random: &mut Random) -> Vec<Point> {
     let count = random.coordinate(1, 8);
-    let first = random.coordinate(LEFT, RIGHT - count);
+    let first = random.coordinate(EM.left, EM.right - count);
     let is_apart = random.chance(50);
-    let column = |k: i16| if is_apart { random.coordinate(LEFT, RIGHT) } else { first + k };
+    let column = |k: i16| if is_apart { random.coordinate(EM.left, EM.right) } else { first + k };
     let columns: Vec<i16> = (0..count).map(column).collect();
-    let reach = random.pick(&[1, 5, TOP - FOOT]);
-    let foot = random.coordinate(FOOT, TOP - reach);
+    let reach = random.pick(&[1, 5, EM.side()]);
+    let foot = random.coordinate(EM.foot, EM.top - reach);
     (0..n).map(|_| Point::new(random.pick(&columns), random.coordinate(foot, foot + reach))).collect()
 }
 
@@ -77,7 +77,7 @@ fn any_step(random: &mut Random) -> Step {
 /// All points of the em box on the line through p with this step, from one end to the other.
 fn line(p: Point, step: Step) -> Vec<Point> {
     let (x, y) = (i64::from(p.x), i64::from(p.y));
-    (-1_000..=1_000).filter_map(|t| point_in_box((x + t * step.0, y + t * step.1))).collect()
+    (-i64::from(EM.side())..=EM.side().into()).filter_map(|t| point_in_box((x + t * step.0, y + t * step.1))).collect()
 }
 
 /// On two to four lines, through one point or side by side.
@@ -97,7 +97,7 @@ fn on_lines(n: usize, random: &mut Random) -> Vec<Point> {
 /// In a row, many times the same where it is short: from one end to the other, or in any order.
 fn row(n: usize, random: &mut Random) -> Vec<Point> {
     let mut on_line = line(anywhere(random), any_step(random));
-    on_line.truncate(random.pick(&[3, 20, 2_001]));
+    on_line.truncate(random.pick(&[3, 20, usize::MAX]));
     let mut points: Vec<Point> = (0..n).map(|_| random.pick(&on_line)).collect();
     match random.below(4) {
         0 => points.sort_unstable(),
@@ -120,10 +120,10 @@ fn near_row(n: usize, random: &mut Random) -> Vec<Point> {
 
 /// About a third of the points in the first column, a third in the last, the others between: up and down the em box, or within a few units.
 fn end_columns(n: usize, random: &mut Random) -> Vec<Point> {
-    let first = random.coordinate(LEFT, RIGHT - 1);
-    let last = random.coordinate(first + 1, RIGHT);
-    let reach = random.pick(&[2, 20, TOP - FOOT]);
-    let foot = random.coordinate(FOOT, TOP - reach);
+    let first = random.coordinate(EM.left, EM.right - 1);
+    let last = random.coordinate(first + 1, EM.right);
+    let reach = random.pick(&[2, 20, EM.side()]);
+    let foot = random.coordinate(EM.foot, EM.top - reach);
     let column = |random: &mut Random| match random.below(3) {
         0 => first,
         1 => last,
@@ -135,19 +135,19 @@ fn end_columns(n: usize, random: &mut Random) -> Vec<Point> {
 /// In columns side by side, one point in each along a parabola that opens upwards, then along one that opens downwards, and so on; or at
 /// any height.
 fn in_every_column(n: usize, random: &mut Random) -> Vec<Point> {
-    let most = (RIGHT - LEFT + 1) as usize;
+    let most = EM.side() as usize + 1;
     let width = n.div_ceil(1 + random.below(2)).min(most);
-    let first = random.coordinate(LEFT, RIGHT - (width - 1) as i16);
-    let (height, is_parabola) = (random.between(0, (TOP - FOOT).into()), random.chance(75));
+    let first = random.coordinate(EM.left, EM.right - (width - 1) as i16);
+    let (height, is_parabola) = (random.between(0, EM.side().into()), random.chance(75));
     let span = (width as i64 - 1).max(1);
     let point = |i: usize| {
         let (round, column) = (i / width, i % width);
         let off = 2 * column as i64 - span;
         let rise = (height * off * off / (span * span)) as i16;
         let y = match round % 2 {
-            _ if !is_parabola => random.coordinate(FOOT, TOP),
-            0 => FOOT + rise,
-            _ => TOP - rise,
+            _ if !is_parabola => random.coordinate(EM.foot, EM.top),
+            0 => EM.foot + rise,
+            _ => EM.top - rise,
         };
         Point::new(first + column as i16, y)
     };
@@ -184,7 +184,7 @@ fn damage(list: &mut Vec<i16>, random: &mut Random) {
 /// One number passes an edge of the em box by one, or by far.
 fn push_out(list: &mut [i16], random: &mut Random) {
     let at = random.below(list.len());
-    let (least, most) = if at.is_multiple_of(2) { (LEFT, RIGHT) } else { (FOOT, TOP) };
+    let (least, most) = if at.is_multiple_of(2) { (EM.left, EM.right) } else { (EM.foot, EM.top) };
     list[at] = random.pick(&[least - 1, most + 1, least - 1, most + 1, i16::MIN, i16::MAX]);
 }
 
@@ -260,7 +260,7 @@ mod tests {
 
         /// Whether eight points or more would be the corners of a hull if the em box's corners were not there.
         fn is_overtopped(&self) -> bool {
-            let is_end = |p: &Point| [LEFT, RIGHT].contains(&p.x) && [FOOT, TOP].contains(&p.y);
+            let is_end = |p: &Point| [EM.left, EM.right].contains(&p.x) && [EM.foot, EM.top].contains(&p.y);
             let rest: Vec<Point> = self.different.iter().copied().filter(|p| !is_end(p)).collect();
             rest.len() > 7 && corners(&rest).len() == rest.len() && rest.len() > self.corners.len()
         }
@@ -325,7 +325,7 @@ mod tests {
     fn lists_have_up_to_so_many_points_and_two_more_in_the_em_box() {
         let mut random = Random::new(2);
         for (i, draw) in DRAWS.into_iter().enumerate() {
-            for n in (1..=60).chain([300, 1_001, 1_002, MOST_POINTS]) {
+            for n in (1..=60).chain([300, 2_049, 2_050, MOST_POINTS]) {
                 let points = draw(n, &mut random);
                 assert!((1..=n + 2).contains(&points.len()) && points.len() <= MOST_POINTS, "{i}: {n}");
                 assert!(points.iter().all(|p| p.is_in_em_box()), "{i}: {n}");
@@ -336,7 +336,7 @@ mod tests {
 
     /// The faults of a list in the order of the checks.
     fn faults(list: &[i16]) -> [bool; 4] {
-        let is_outside = |p: &Point| !(0..=1000).contains(&p.x) || !(-250..=750).contains(&p.y);
+        let is_outside = |p: &Point| !(0..=2048).contains(&p.x) || !(-512..=1536).contains(&p.y);
         [list.len() % 2 == 1, list.is_empty(), list.len() > 8_192, points_of(list).iter().any(is_outside)]
     }
 
@@ -373,7 +373,8 @@ mod tests {
         let mut random = Random::new(4);
         let drawn: Vec<Point> = (0..4_000).flat_map(|_| points_of(&draw(12, &mut random))).collect();
         let times = |is_so: fn(&Point) -> bool| drawn.iter().filter(|p| is_so(p)).count();
-        let passed = [|p: &Point| p.x == -1, |p: &Point| p.x == 1001, |p: &Point| p.y == -251, |p: &Point| p.y == 751].map(times);
+        let passed =
+            [|p: &Point| p.x == -1, |p: &Point| p.x == 2049, |p: &Point| p.y == -513, |p: &Point| p.y == 1537].map(times);
         assert!(passed.iter().all(|&times| times > 10), "{passed:?}");
     }
 }

@@ -2,7 +2,7 @@
 
 use super::drawn::anywhere;
 use crate::geometry::{gcd, Point};
-use crate::limits::{FOOT, LEFT, RIGHT, TOP};
+use crate::limits::EM;
 use crate::lists::{halfway, point_in_box};
 use crate::random::Random;
 use std::cmp::Ordering;
@@ -17,7 +17,7 @@ pub fn least_step((dx, dy): Step) -> Step {
 }
 
 /// The polygon with a side for each least step of up to this squared length fits into the em box; with longer steps it would not.
-const SQUARED_REACH: i64 = 178;
+const SQUARED_REACH: i64 = 290;
 
 /// All least steps of up to this squared length.
 fn least_steps(square: i64) -> Vec<Step> {
@@ -66,7 +66,7 @@ fn placed(sides: &[Step], random: &mut Random) -> Option<Vec<Point>> {
         (first <= last).then(|| random.between(first, last))
     };
     let (xs, ys): (Vec<i64>, Vec<i64>) = places.iter().copied().unzip();
-    let (x, y) = (start(LEFT, RIGHT, &xs, random)?, start(FOOT, TOP, &ys, random)?);
+    let (x, y) = (start(EM.left, EM.right, &xs, random)?, start(EM.foot, EM.top, &ys, random)?);
     places.into_iter().map(|(dx, dy)| point_in_box((x + dx, y + dy))).collect()
 }
 
@@ -92,7 +92,7 @@ fn polygon(n: usize, (fewest, most): (i64, i64), random: &mut Random) -> Vec<Poi
     }
 }
 
-/// The polygon with a side for each of these steps, 344 corners, again and again, in any order.
+/// The polygon with a side for each of these steps, 560 corners, again and again, in any order.
 pub fn full_polygon(n: usize, random: &mut Random) -> Vec<Point> {
     let corners = placed(&closed(&least_steps(SQUARED_REACH)), random).expect("it fits into the em box");
     let mut points: Vec<Point> = corners.into_iter().cycle().take(n).collect();
@@ -145,7 +145,7 @@ fn on_side(a: Point, b: Point, random: &mut Random) -> Point {
 pub fn overtopped(n: usize, random: &mut Random) -> Vec<Point> {
     let mut points = polygon(n, (1, 3), random);
     for _ in 0..=random.below(2) {
-        let end = Point::new(random.pick(&[LEFT, RIGHT]), random.pick(&[FOOT, TOP]));
+        let end = Point::new(random.pick(&[EM.left, EM.right]), random.pick(&[EM.foot, EM.top]));
         points.push(if random.chance(70) { end } else { anywhere(random) });
     }
     reordered(points, random)
@@ -171,21 +171,21 @@ mod tests {
     }
 
     #[test]
-    fn the_full_polygon_has_344_corners_and_no_larger_one_fits() {
+    fn the_full_polygon_has_560_corners_and_no_larger_one_fits() {
         let points = full_polygon(1_000, &mut Random::new(3));
-        assert_eq!((points.len(), corners(&points).len()), (1_000, 344));
+        assert_eq!((points.len(), corners(&points).len()), (1_000, 560));
         let longer =
-            (SQUARED_REACH + 1..).map(least_steps).find(|steps| steps.len() > 344).expect("longer steps make more sides");
+            (SQUARED_REACH + 1..).map(least_steps).find(|steps| steps.len() > 560).expect("longer steps make more sides");
         assert_eq!(placed(&closed(&longer), &mut Random::new(3)), None);
     }
 
     #[test]
     fn polygons_have_few_and_many_corners() {
         let mut random = Random::new(2);
-        let mut sizes: Vec<usize> = (0..2_000).map(|i| polygon(1 + i % 400, (1, 1), &mut random).len()).collect();
+        let mut sizes: Vec<usize> = (0..4_000).map(|i| polygon(1 + i % 600, (1, 1), &mut random).len()).collect();
         sizes.sort_unstable();
         let times = |from: usize, to: usize| sizes.iter().filter(|&&size| (from..=to).contains(&size)).count();
-        for (from, to) in [(1, 2), (3, 10), (11, 50), (51, 150), (151, 300), (301, 400)] {
+        for (from, to) in [(1, 2), (3, 10), (11, 50), (51, 150), (151, 300), (301, 400), (401, 560)] {
             assert!(times(from, to) > 10, "{from} to {to}: {}", times(from, to));
         }
     }

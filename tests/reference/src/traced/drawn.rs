@@ -2,7 +2,7 @@
 
 use super::{flat, TracedPoint};
 use crate::geometry::{Disk, Point};
-use crate::limits::{FOOT, LEFT, MOST_TOLERANCE, RIGHT, TOP};
+use crate::limits::{EM, MOST_TOLERANCE};
 use crate::lists::{self, Kind, KINDS};
 use crate::random::Random;
 use crate::smallest::smallest_disk;
@@ -38,7 +38,7 @@ pub(super) fn of_kind(kind: Kind, n: usize, random: &mut Random) -> Vec<TracedPo
 
 /// The point moved as far as its square needs it to stay in the em box: near an edge, the square touches it.
 pub fn fitted(p: Point, t: i16) -> TracedPoint {
-    TracedPoint { x: p.x.clamp(LEFT + t, RIGHT - t), y: p.y.clamp(FOOT + t, TOP - t), t }
+    TracedPoint { x: p.x.clamp(EM.left + t, EM.right - t), y: p.y.clamp(EM.foot + t, EM.top - t), t }
 }
 
 /// All zero, all equal, all different (as far as there are so many), zero or the most, or any up to a bound.
@@ -131,7 +131,7 @@ fn spoil_tolerance(p: &mut TracedPoint, random: &mut Random) {
 /// The square passes an edge of the em box by one, or lies far outside.
 fn push_out(p: &mut TracedPoint, random: &mut Random) {
     let TracedPoint { x, y, t } = *p;
-    let edges = [(LEFT + t - 1, y), (RIGHT - t + 1, y), (x, FOOT + t - 1), (x, TOP - t + 1)];
+    let edges = [(EM.left + t - 1, y), (EM.right - t + 1, y), (x, EM.foot + t - 1), (x, EM.top - t + 1)];
     let far = [(i16::MIN, y), (i16::MAX, y), (x, i16::MIN), (x, i16::MAX)];
     (p.x, p.y) = if random.chance(70) { random.pick(&edges) } else { random.pick(&far) };
 }
@@ -216,9 +216,9 @@ mod tests {
         ("more than ten squares in up to three bigger ones", 600, |l| l.len() > 10 && outermost(l).len() <= 3),
         ("on one circle", 80, share_a_circle),
         ("a square touches the left edge", 200, |l| l.iter().any(|p| p.t > 0 && p.x - p.t == 0)),
-        ("the right edge", 200, |l| l.iter().any(|p| p.t > 0 && p.x + p.t == 1000)),
-        ("the lower edge", 200, |l| l.iter().any(|p| p.t > 0 && p.y - p.t == -250)),
-        ("the upper edge", 200, |l| l.iter().any(|p| p.t > 0 && p.y + p.t == 750)),
+        ("the right edge", 200, |l| l.iter().any(|p| p.t > 0 && p.x + p.t == 2048)),
+        ("the lower edge", 200, |l| l.iter().any(|p| p.t > 0 && p.y - p.t == -512)),
+        ("the upper edge", 200, |l| l.iter().any(|p| p.t > 0 && p.y + p.t == 1536)),
         ("one point", 40, |l| l.len() == 1),
         ("more than 30", 500, |l| l.len() > 30),
         ("a large E", 200, |l| smallest_by_places(l).e > 100_000),
@@ -238,7 +238,7 @@ mod tests {
     fn faults(p: &TracedPoint) -> [bool; 2] {
         let (x, y, t) = (i32::from(p.x), i32::from(p.y), i32::from(p.t));
         let reach = t.clamp(0, 50);
-        let is_in_box = x >= reach && x <= 1000 - reach && y >= reach - 250 && y <= 750 - reach;
+        let is_in_box = x >= reach && x <= 2048 - reach && y >= reach - 512 && y <= 1536 - reach;
         [t != reach, !is_in_box]
     }
 
@@ -285,7 +285,8 @@ mod tests {
         let drawn: Vec<_> =
             lists.flat_map(|list| traced_of(&list)).map(TracedPoint::wide).filter(|p| (1..=50).contains(&p.2)).collect();
         let times = |is_so: fn(i128, i128, i128) -> bool| drawn.iter().filter(|(x, y, t)| is_so(*x, *y, *t)).count();
-        let passed = [|x, _, t| x - t == -1, |x, _, t| x + t == 1001, |_, y, t| y - t == -251, |_, y, t| y + t == 751].map(times);
+        let passed =
+            [|x, _, t| x - t == -1, |x, _, t| x + t == 2049, |_, y, t| y - t == -513, |_, y, t| y + t == 1537].map(times);
         assert!(passed.iter().all(|&times| times > 20), "{passed:?}");
     }
 }
