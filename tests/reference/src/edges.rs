@@ -172,4 +172,16 @@ mod tests {
             assert_eq!(record::read(&given).map_err(Refusal::number), gives, "{says}: {given:?}");
         }
     }
+
+    /// 53 bytes give themselves; 45 their 53-byte form, with eight zeros before S.
+    #[test]
+    fn records_that_are_read_are_written_again() {
+        for Edge { says, given, gives } in readings() {
+            let Ok((disk, support)) = gives else { continue };
+            let mut buffer = [0xAA; 64];
+            assert_eq!(record::write(&disk, &support, &mut buffer), Ok(()), "{says}: {given:?}");
+            let form = if given.len() == 45 { [&given[..24], &[0; 8], &given[24..]].concat() } else { given };
+            assert_eq!(buffer[..], [&form[..], &[0xAA; 11]].concat(), "{says}");
+        }
+    }
 }

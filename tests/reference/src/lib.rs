@@ -5,7 +5,7 @@
 //!
 //! | Module | What it is |
 //! |---|---|
-//! | [`refusal`], [`limits`] | the refusal numbers; the em box and the other limits |
+//! | [`refusal`], [`limits`] | the refusal numbers; the em boxes and the other limits |
 //! | [`geometry`] | points, disks in lowest terms, containment, the disks of one, two and three points |
 //! | [`definition`] | the smallest disk of a few points, by its definition |
 //! | [`smallest`] | the smallest enclosing disk, by growing a set of at most three points |
@@ -20,14 +20,14 @@
 //! | [`drawing`] | points from a drawing program (document 02, item 2) |
 //! | [`sheet`] | the sheet opener |
 //! | [`belonging`] | whether points belong to a disk (document 02, item 9), by its words |
-//! | [`record`] | validity, writer and reader |
+//! | [`record`] | its two forms, validity, writer and reader |
 //! | [`figures`] | the cutting radius and the preview |
 //! | [`listing`] | what the listing program prints |
 //! | [`inputs`] | what a call is given |
 //! | [`random`], [`lists`], [`damage`] | drawn lists, descriptions, sheets and records, each by its seed |
 //! | [`worst`] | lists that cost many tests |
 //! | [`letters`] | the letters A to K of document 01 |
-//! | [`edges`] | the edges of document 01, by hand |
+//! | [`edges`] | the edges of documents 01 and 02, by hand |
 //! | [`vectors`] | a case of the test program for each call, in its layout |
 //! | [`stored`] | the stored cases |
 

@@ -1,8 +1,8 @@
 //! Lists that cost many tests.
 //!
 //! Points that come from the inside out are mostly outside when they are tested: [`Kind::Growing`] goes round while the radius
-//! grows, [`Kind::ByDistance`] sorts drawn points by their distance from the middle of the em box. At 4,096 points the latter is the
-//! worst kind found, with some 8.2 million tests. For short lists [`climb`] comes nearer to the bound.
+//! grows, [`Kind::ByDistance`] sorts drawn points by their distance from the middle of the em box. At 4,096 points these are the
+//! worst kinds found, with some 8.2 million tests. For short lists [`climb`] comes nearer to the bound.
 
 use crate::geometry::Point;
 use crate::limits::EM;
