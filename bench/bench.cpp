@@ -63,11 +63,20 @@ void judge(const Drawn& d, const Disk& smallest, const List& list, Faults& fault
     for (Point p : list) faults.sticks_out = std::max(faults.sticks_out, std::hypot(p.x - d.x, p.y - d.y) - radius);
 }
 
+std::string decimal(Wide s) {
+    std::string digits;
+    do {
+        digits.insert(digits.begin(), char('0' + int(s % 10)));
+        s /= 10;
+    } while (s > 0);
+    return digits;
+}
+
 void check_exact(const Entry& entry, const Disk& disk, const Disk& smallest, const List& list) {
     bool is_right = disk == smallest;
     for (Point p : list) is_right = is_right && holds(disk, p);
     if (is_right) return;
-    std::fprintf(stderr, "%s: wrong disk %ld %ld %ld %ld\n", entry.name.c_str(), long(disk.x), long(disk.y), long(disk.e), long(disk.s));
+    std::fprintf(stderr, "%s: wrong disk %ld %ld %ld %s\n", entry.name.c_str(), long(disk.x), long(disk.y), long(disk.e), decimal(disk.s).c_str());
     std::exit(1);
 }
 

@@ -1,4 +1,4 @@
-// Welzl's move-to-front procedure by hand in C++, on 64-bit integers: what a careful programmer would write without proofs.
+// Welzl's move-to-front procedure by hand in C++, on 64-bit integers but for S: what a careful programmer would write without proofs.
 //
 // It does what the engine's call does: the checks, the procedure on the list as given (order left and count of tests are the
 // engine's), the disk in lowest terms and its first support set.
@@ -19,6 +19,7 @@ namespace by_hand {
 
 using bench::Disk;
 using bench::Point;
+using bench::Wide;
 
 struct Relative {
     int64_t qx, qy, e, gx, gy, a, b;
@@ -87,10 +88,15 @@ inline Relative procedure(Point* list, size_t n, uint64_t& tests) {
     return disk;
 }
 
+inline Wide square(int64_t a) {
+    uint64_t size = uint64_t(std::llabs(a));
+    return Wide(size) * size;
+}
+
 inline Disk lowest_terms(const Relative& d) {
     int64_t g = std::gcd(std::gcd(std::llabs(d.gx), std::llabs(d.gy)), d.e);
     int64_t e = d.e / g, gx = d.gx / g, gy = d.gy / g;
-    return {d.qx * e + gx, d.qy * e + gy, e, gx * gx + gy * gy};
+    return {d.qx * e + gx, d.qy * e + gy, e, square(gx) + square(gy)};
 }
 
 struct Support {
@@ -149,7 +155,7 @@ inline int refusal_of(const Point* list, size_t n) {
     if (n == 0) return 5;
     if (n > 4096) return 4;
     for (size_t i = 0; i < n; i++) {
-        if (list[i].x < 0 || list[i].x > 1000 || list[i].y < -250 || list[i].y > 750) return 3;
+        if (list[i].x < 0 || list[i].x > 2048 || list[i].y < -512 || list[i].y > 1536) return 3;
     }
     return 0;
 }

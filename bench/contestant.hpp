@@ -13,9 +13,12 @@ struct Point {
 
 using List = std::vector<Point>;
 
+using Wide = unsigned __int128;
+
 // Centre (x/e, y/e) and squared radius s/e^2 with no common divisor of x, y and e.
 struct Disk {
-    int64_t x, y, e, s;
+    int64_t x, y, e;
+    Wide s;
     bool operator==(const Disk& o) const { return x == o.x && y == o.y && e == o.e && s == o.s; }
 };
 

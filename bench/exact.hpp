@@ -76,9 +76,9 @@ inline int compare_radius(const Drawn& d, const Disk& smallest) {
         sum.add_product(square, ee);
         sum.add_product(rest, ee);
     }
-    int64_t high = smallest.s >> 30;
+    uint64_t high = uint64_t(smallest.s >> 30);  // s is below 2^70
     sum.add_product(-double(high), double(int64_t(1) << 30));
-    sum.add(-double(smallest.s - (high << 30)));
+    sum.add(-double(uint64_t(smallest.s - (Wide(high) << 30))));
     return sum.sign();
 }
 
@@ -89,13 +89,13 @@ inline double radius_of(const Drawn& d) {
 // The least whole R with R^2 e^2 greater than s.
 inline int64_t whole_radius(const Disk& d) {
     int64_t r = 0;
-    while (__int128(r) * r * d.e * d.e <= d.s) r++;
+    while (Wide(r * r) * Wide(d.e * d.e) <= d.s) r++;
     return r;
 }
 
 inline bool holds(const Disk& d, Point p) {
     __int128 dx = __int128(p.x) * d.e - d.x, dy = __int128(p.y) * d.e - d.y;
-    return dx * dx + dy * dy <= d.s;
+    return Wide(dx * dx + dy * dy) <= d.s;
 }
 
 }  // namespace bench

@@ -60,7 +60,7 @@ inline Reduced hull_by_sorting(Point* list, size_t n, std::vector<Point>& scratc
 
 // The lowest and the highest point of each column x of the em box, and a bit for each column that has one.
 struct Columns {
-    static constexpr size_t WIDTH = 1001;
+    static constexpr size_t WIDTH = 2049;
     int16_t low[WIDTH], high[WIDTH];
     uint64_t used[WIDTH / 64 + 1] = {};
 

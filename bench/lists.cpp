@@ -24,11 +24,11 @@ class Random {
     uint64_t state;
 };
 
-List uniform(size_t n, Random& random) {
+List uniform(size_t n, Box box, Random& random) {
     List list(n);
     for (Point& p : list) {
-        p.x = int16_t(random.between(0, 1000));
-        p.y = int16_t(random.between(-250, 750));
+        p.x = int16_t(random.between(0, box.right));
+        p.y = int16_t(random.between(box.foot, box.top));
     }
     return list;
 }
@@ -85,10 +85,9 @@ List outline(size_t n, Random& random) {
     return list;
 }
 
-List worst(size_t n, Random& random) {
-    List list = uniform(n, random);
-    auto from_middle = [](Point p) { return (p.x - 500) * (p.x - 500) + (p.y - 250) * (p.y - 250); };
-    std::stable_sort(list.begin(), list.end(), [&](Point a, Point b) { return from_middle(a) < from_middle(b); });
+List worst(size_t n, Box box, Random& random) {
+    List list = uniform(n, box, random);
+    std::stable_sort(list.begin(), list.end(), [&](Point a, Point b) { return from_middle(a, box) < from_middle(b, box); });
     return list;
 }
 
@@ -101,8 +100,16 @@ std::string name_of(Kind kind) {
         case Kind::Convex: return "convex";
         case Kind::Outline: return "glyph outline";
         case Kind::Worst: return "worst known";
+        case Kind::Wider: return "uniform, 2,048 units";
     }
     return "";
+}
+
+Box box_of(Kind kind) { return kind == Kind::Wider ? Box{2048, -512, 1536} : Box{1000, -250, 750}; }
+
+int from_middle(Point p, Box box) {
+    int dx = p.x - box.right / 2, dy = p.y - (box.foot + box.top) / 2;
+    return dx * dx + dy * dy;
 }
 
 bool read_outlines(const std::string& path) {
@@ -126,11 +133,12 @@ bool read_outlines(const std::string& path) {
 List draw(Kind kind, size_t n, uint64_t seed) {
     Random random(seed * 64 + uint64_t(kind));
     switch (kind) {
-        case Kind::Uniform: return uniform(n, random);
+        case Kind::Uniform:
+        case Kind::Wider: return uniform(n, box_of(kind), random);
         case Kind::Circle: return circle(n, random);
         case Kind::Convex: return convex(n, random);
         case Kind::Outline: return outline(n, random);
-        case Kind::Worst: return worst(n, random);
+        case Kind::Worst: return worst(n, box_of(kind), random);
     }
     return {};
 }

@@ -53,7 +53,7 @@ inline Loaded load(const uint8_t* text, size_t length, int16_t* list, size_t roo
         if (!read_number(text, length, at, y)) return {2, 0};
         skip_spaces(text, length, at);
         if (at < length && text[at++] != '\n') return {2, 0};
-        if (x < 0 || x > 1000 || y < -250 || y > 750) return {3, 0};
+        if (x < 0 || x > 2048 || y < -512 || y > 1536) return {3, 0};
         if (n == 4096) return {4, 0};
         found[2 * n] = int16_t(x);
         found[2 * n + 1] = int16_t(y);

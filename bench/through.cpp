@@ -8,9 +8,9 @@
 #include <cstdio>
 #include <cstdlib>
 
-#include "../include/volkhidar.h"
 #include "by_hand.hpp"
 #include "lists.hpp"
+#include "ours.hpp"
 #include "turns.hpp"
 
 namespace {
@@ -48,11 +48,10 @@ const char* name_of(How how) {
     return "";
 }
 
-Choice choose(How how, const List& list) {
+Choice choose(How how, const List& list, Box box) {
     auto least = *std::min_element(list.begin(), list.end(), [](Point p, Point q) { return p.x != q.x ? p.x < q.x : p.y < q.y; });
     auto highest = *std::max_element(list.begin(), list.end(), [](Point p, Point q) { return p.y != q.y ? p.y < q.y : p.x < q.x; });
-    auto from_middle = [](Point p) { return (p.x - 500) * (p.x - 500) + (p.y - 250) * (p.y - 250); };
-    auto nearest = *std::min_element(list.begin(), list.end(), [&](Point p, Point q) { return from_middle(p) < from_middle(q); });
+    auto nearest = *std::min_element(list.begin(), list.end(), [&](Point p, Point q) { return from_middle(p, box) < from_middle(q, box); });
     List copy = list;
     std::vector<Point> scratch;
     by_hand::Support set = by_hand::smallest_disk(copy.data(), copy.size(), scratch).support;
@@ -75,9 +74,7 @@ bool is_right(const volkhidar_through_answer& answer, const List& list, Choice c
     bool fits = d.e > 0;
     for (Point p : list) fits = fits && by_hand::side(d, p) <= 0;
     if (!fits) return answer.refusal == 13;
-    Disk disk = by_hand::lowest_terms(d);
-    const volkhidar_disk& found = answer.disk;
-    return answer.refusal == 0 && disk == Disk{found.x, found.y, int64_t(found.e), int64_t(found.s)};
+    return answer.refusal == 0 && disk_of(answer.disk) == by_hand::lowest_terms(d);
 }
 
 void compare(Kind kind, Size size, How how) {
@@ -85,7 +82,7 @@ void compare(Kind kind, Size size, How how) {
     std::vector<Choice> choices;
     for (size_t i = 0; i < size.lists; i++) {
         lists.push_back(draw(kind, size.n, i));
-        choices.push_back(choose(how, lists.back()));
+        choices.push_back(choose(how, lists.back(), box_of(kind)));
     }
     std::vector<volkhidar_through_answer> answers(lists.size());
     std::vector<List> copies;

@@ -7,8 +7,8 @@
 #include <cstdio>
 #include <cstdlib>
 
-#include "../include/volkhidar.h"
 #include "lists.hpp"
+#include "ours.hpp"
 #include "turns.hpp"
 
 namespace {
@@ -30,13 +30,13 @@ struct Tolerances {
 
 constexpr Tolerances TOLERANCES[] = {{"0", 0, 0}, {"5", 5, 5}, {"50", 50, 50}, {"0 to 50", 0, 50}};
 
-// A list of traced points, x, y and t by turns: each is moved so far that its square lies in the em box.
-std::vector<int16_t> traced(const List& points, Tolerances tolerances) {
+// A list of traced points, x, y and t by turns: each is moved so far that its square lies in the box.
+std::vector<int16_t> traced(const List& points, Box box, Tolerances tolerances) {
     std::vector<int16_t> list;
     int16_t t = tolerances.least;
     for (Point p : points) {
-        list.push_back(std::clamp<int16_t>(p.x, t, 1000 - t));
-        list.push_back(std::clamp<int16_t>(p.y, -250 + t, 750 - t));
+        list.push_back(std::clamp<int16_t>(p.x, t, box.right - t));
+        list.push_back(std::clamp<int16_t>(p.y, box.foot + t, box.top - t));
         list.push_back(t);
         t = t < tolerances.most ? t + 1 : tolerances.least;
     }
@@ -54,12 +54,10 @@ std::vector<int16_t> corners(const std::vector<int16_t>& list) {
     return points;
 }
 
-bool is_same(const volkhidar_disk& c, const volkhidar_disk& d) { return c.x == d.x && c.y == d.y && c.e == d.e && c.s == d.s; }
-
 void compare(Kind kind, Size size, Tolerances tolerances) {
     std::vector<std::vector<int16_t>> lists, squares;
     for (size_t i = 0; i < size.lists; i++) {
-        lists.push_back(traced(draw(kind, size.n, i), tolerances));
+        lists.push_back(traced(draw(kind, size.n, i), box_of(kind), tolerances));
         squares.push_back(corners(lists.back()));
     }
     std::vector<volkhidar_disk_answer> plain(lists.size());
@@ -75,7 +73,7 @@ void compare(Kind kind, Size size, Tolerances tolerances) {
                    }};
     std::vector<double> times = take_turns(ROUNDS, lists.size(), {on_corners, on_traced});
     for (size_t i = 0; i < lists.size(); i++) {
-        if (answers[i].refusal == 0 && plain[i].refusal == 0 && is_same(answers[i].disk, plain[i].disk)) continue;
+        if (answers[i].refusal == 0 && plain[i].refusal == 0 && disk_of(answers[i].disk) == disk_of(plain[i].disk)) continue;
         std::fprintf(stderr, "another answer on %s, %zu traced points, t %s\n", name_of(kind).c_str(), size.n, tolerances.name);
         std::exit(1);
     }

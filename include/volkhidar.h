@@ -24,9 +24,9 @@
  *                  4   more than 4,096 points, or 1,024 traced points
  *                  5   no point or no traced point
  *                  6   sheet shorter than its directory, or its pairs break the rules
- *                  7   a record of another length than 45 bytes, with another count than its points have, or not valid;
- *                      a disk and support set that a valid record could not hold
- *                  8   a list under 8,192 numbers; a buffer under 45 bytes
+ *                  7   a record of another length than 53 or 45 bytes, with another count than its points have, or not valid;
+ *                      a disk and support set that a valid record of 53 bytes could not hold
+ *                  8   a list under 8,192 numbers; a buffer under 53 bytes
  *                  9   a point list of odd length; a list of traced points whose length is not a multiple of three
  *                 10   glyph number not below the count
  *                 11   a NaN, an infinity or a float with a fraction in a point's x or y
@@ -42,6 +42,9 @@
  *               volkhidar_whole_radius, volkhidar_preview, volkhidar_write_record and volkhidar_read_record test this, after all
  *               else, and refuse with 15. So a disk and set that one of them takes, and a record that is read, are what
  *               volkhidar_smallest_disk gives for the named points alone; and whatever that gives, they take.
+ *   Records     A record has 53 bytes. One of 45 bytes is of an em box of 1,000 units: it has 8 bytes for s in place of 16 and is valid by
+ *               the limits of that box, x from 0 to 1000, y from -250 to 750, e to 2,000,000 and s to 500,000 e^2.
+ *               volkhidar_read_record takes both; 53 bytes are all that is written.
  *
  * docs/FORMATS.md describes descriptions, sheets and records byte by byte.
  */
@@ -56,26 +59,37 @@ extern "C" {
 #endif
 
 /* Lengths and limits that the checks ask for. */
-#define VOLKHIDAR_MOST_BYTES 65535   /* of a description or a sheet */
-#define VOLKHIDAR_MOST_POINTS 4096   /* of a point list */
-#define VOLKHIDAR_LIST_LENGTH 8192   /* least length of the list that volkhidar_load and volkhidar_append_point are lent */
-#define VOLKHIDAR_RECORD_LENGTH 45   /* of a record, in bytes */
-#define VOLKHIDAR_MOST_TRACED 1024   /* traced points of a list */
-#define VOLKHIDAR_MOST_TOLERANCE 50  /* of a traced point, in units */
+#define VOLKHIDAR_MOST_BYTES 65535      /* of a description or a sheet */
+#define VOLKHIDAR_MOST_POINTS 4096      /* of a point list */
+#define VOLKHIDAR_LIST_LENGTH 8192      /* least length of the list that volkhidar_load and volkhidar_append_point are lent */
+#define VOLKHIDAR_RECORD_LENGTH 53      /* of a record, in bytes */
+#define VOLKHIDAR_OLD_RECORD_LENGTH 45  /* of a record of an em box of 1,000 units, which is read too */
+#define VOLKHIDAR_MOST_TRACED 1024      /* traced points of a list */
+#define VOLKHIDAR_MOST_TOLERANCE 50     /* of a traced point, in units */
 
-/* A point of the em box: x from 0 to 1000, y from -250 to 750. */
+/* A point of the em box: x from 0 to 2048, y from -512 to 1536. */
 typedef struct {
     int16_t x, y;
 } volkhidar_point;
 
 /*
- * Centre (x/e, y/e), squared radius s/e^2. A disk that a call returns has e from 1 to 2,000,000 and no common divisor of x, y and e
- * above 1; so each disk has one writing. Its centre is in the em box and s at most 500,000 e^2, except that a disk of
- * volkhidar_smallest_disk_through may lie and reach anywhere.
+ * The number hi * 2^64 + lo: (unsigned __int128)hi << 64 | lo where the compiler has such numbers, ldexp((double)hi, 64) + (double)lo
+ * as a double.
+ */
+typedef struct {
+    uint64_t hi, lo;
+} volkhidar_wide;
+
+/*
+ * Centre (x/e, y/e), squared radius s/e^2. A disk that a call returns has e from 1 to 8,388,608 and no common divisor of x, y and e
+ * above 1; so each disk has one writing. Its centre is in the em box and s at most 2,097,152 e^2, except that a disk of
+ * volkhidar_smallest_disk_through may lie and reach anywhere. s may need more than 64 bits, and it alone: the procedure's own test of a
+ * point fits 64.
  */
 typedef struct {
     int64_t x, y;
-    uint64_t e, s;
+    uint64_t e;
+    volkhidar_wide s;
 } volkhidar_disk;
 
 /*
@@ -178,8 +192,8 @@ volkhidar_disk_answer volkhidar_smallest_disk(int16_t *list, size_t list_length)
 /*
  * The smallest disk that holds the points of `list`, x and y by turns, and has the chosen points `first` and `second` on its boundary:
  * smallest of all disks with a fractional centre and squared radius that do, and no other is as small. One point that is chosen alone is
- * passed twice. The list is only read. Only the disk is returned: its centre may be outside the em box and s above 500,000 e^2, and it
- * then has no whole radius, preview or record (7). Within these limits it has them with points that belong to it, which the chosen
+ * passed twice. The list is only read. Only the disk is returned: its centre may be outside the em box and s above 2,097,152 e^2, and
+ * it then has no whole radius, preview or record (7). Within these limits it has them with points that belong to it, which the chosen
  * points need not do (15).
  * Refusals, in this order: 9 for an odd length, 5, 4, 3; 12 for a chosen point that is not in the list, one outside the em box too; 13
  * exactly where there is no such disk.
@@ -211,7 +225,7 @@ volkhidar_hull_answer volkhidar_reduce_to_hull(int16_t *list, size_t list_length
 /*
  * The radius to cut with, a whole number: the least R with R^2 e^2 greater than s. The cut, the circle of radius R about the disk's
  * centre, keeps off every point that the disk holds: each lies inside it and none on it. So R is above the disk's own radius by at most
- * 1, and by 1 exactly where that is a whole number itself; a single point has R 1.
+ * 1, and by 1 exactly where that is a whole number itself; a single point has R 1, and no disk has one above 1449.
  * Refusals, in this order: 7 for a disk and support set that a valid record could not hold; 15 for points that do not belong to the disk.
  */
 volkhidar_radius_answer volkhidar_whole_radius(volkhidar_disk disk, volkhidar_support support);
@@ -223,14 +237,15 @@ volkhidar_radius_answer volkhidar_whole_radius(volkhidar_disk disk, volkhidar_su
 volkhidar_preview_answer volkhidar_preview(volkhidar_disk disk, volkhidar_support support);
 
 /*
- * Writes the record of a disk and its support set into the first 45 bytes of `buffer`; the rest stays. Returns 0 or the refusal.
+ * Writes the record of a disk and its support set into the first 53 bytes of `buffer`; the rest stays. Returns 0 or the refusal.
  * The record has three points, the last repeated where there are fewer, and in its last byte how many are meant: 1, 2 or 3.
- * Refusals, in this order: 8 for a buffer under 45 bytes; 7; 15 for points that do not belong to the disk.
+ * Refusals, in this order: 8 for a buffer under 53 bytes; 7; 15 for points that do not belong to the disk.
  */
 uint64_t volkhidar_write_record(volkhidar_disk disk, volkhidar_support support, uint8_t *buffer, size_t buffer_length);
 
 /*
- * Reads a record. What volkhidar_write_record wrote is read back, and what is read, written again, gives its own bytes.
+ * Reads a record of 53 bytes, or of 45 by the limits of an em box of 1,000 units. What volkhidar_write_record wrote is read back. What
+ * is read, written again, gives its own bytes if they were 53, and otherwise the 53 bytes of the same disk and points.
  * Refusals, in this order: 7, for bytes of another length and for a count that disagrees with the repeats, too; 15 for a valid record
  * whose points do not belong to its disk.
  */
@@ -238,8 +253,8 @@ volkhidar_record_answer volkhidar_read_record(const uint8_t *bytes, size_t lengt
 
 /*
  * From a description to its record in one call: volkhidar_load, volkhidar_smallest_disk on the points that it found, and
- * volkhidar_write_record of what that gave. The first 45 bytes of `buffer` are written and the rest stays. Returns 0 or the refusal.
- * Refusals, in this order: 8 for a buffer under 45 bytes; then those of volkhidar_load for the description.
+ * volkhidar_write_record of what that gave. The first 53 bytes of `buffer` are written and the rest stays. Returns 0 or the refusal.
+ * Refusals, in this order: 8 for a buffer under 53 bytes; then those of volkhidar_load for the description.
  */
 uint64_t volkhidar_record_of(const uint8_t *text, size_t text_length, uint8_t *buffer, size_t buffer_length);
 

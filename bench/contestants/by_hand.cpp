@@ -1,4 +1,4 @@
-// The same procedure by hand, on 64-bit integers: on the list as given, and on the corners of its hull.
+// The same procedure by hand, on 64-bit integers but for S: on the list as given, and on the corners of its hull.
 #include "../by_hand.hpp"
 
 #include "../hull_by_hand.hpp"

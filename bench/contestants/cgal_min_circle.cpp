@@ -9,9 +9,9 @@
 #include <CGAL/Min_circle_2_traits_2.h>
 #include <CGAL/Random.h>
 
-#include <cstdlib>
 #include <numeric>
 #include <sstream>
+#include <string>
 
 #include "../contestant.hpp"
 
@@ -23,22 +23,27 @@ using Fraction = CGAL::Fraction_traits<Rational>;
 using MinCircle = CGAL::Min_circle_2<CGAL::Min_circle_2_traits_2<Kernel>>;
 
 struct Parts {
-    int64_t over, under;
+    __int128 over, under;
 };
 
 template <class Z>
-int64_t to_int64(const Z& z) {
+__int128 to_int128(const Z& z) {
     std::ostringstream out;
     out << z;
-    return std::strtoll(out.str().c_str(), nullptr, 10);
+    std::string text = out.str();
+    __int128 value = 0;
+    for (char c : text) {
+        if (c != '-') value = 10 * value + (c - '0');
+    }
+    return text[0] == '-' ? -value : value;
 }
 
-// A fraction in lowest terms whose parts fit 64 bits.
+// A fraction in lowest terms whose parts fit 128 bits.
 Parts parts_of(const Rational& q) {
     Fraction::Numerator_type over;
     Fraction::Denominator_type under;
     Fraction::Decompose()(q, over, under);
-    return {to_int64(over), to_int64(under)};
+    return {to_int128(over), to_int128(under)};
 }
 
 struct Circle {
@@ -47,8 +52,8 @@ struct Circle {
 
 Disk lowest_terms(const Circle& c) {
     Parts x = parts_of(c.x), y = parts_of(c.y), square = parts_of(c.square);
-    int64_t e = std::lcm(x.under, y.under);
-    return {x.over * (e / x.under), y.over * (e / y.under), e, int64_t(__int128(square.over) * e * e / square.under)};
+    int64_t e = std::lcm(int64_t(x.under), int64_t(y.under));
+    return {int64_t(x.over * (e / x.under)), int64_t(y.over * (e / y.under)), e, Wide(square.over * (e * e / square.under))};
 }
 
 class CgalMinCircle : public Contestant {

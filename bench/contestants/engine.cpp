@@ -1,6 +1,5 @@
 // The engine through its C interface (include/volkhidar.h): on the list as given, and on the corners of its hull.
-#include "../../include/volkhidar.h"
-#include "../contestant.hpp"
+#include "../ours.hpp"
 
 namespace {
 using namespace bench;
@@ -16,10 +15,7 @@ class Engine : public Contestant {
             answers[i] = volkhidar_smallest_disk(&lists[i].data()->x, 2 * lists[i].size());
         }
     }
-    Found found(size_t i) const override {
-        const volkhidar_disk& d = answers[i].disk;
-        return {{d.x, d.y, int64_t(d.e), int64_t(d.s)}, {}};
-    }
+    Found found(size_t i) const override { return {disk_of(answers[i].disk), {}}; }
 
   protected:
     std::vector<List> lists;

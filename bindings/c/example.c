@@ -1,26 +1,53 @@
 /*
  * The way of a letter through the library: a description is read, its smallest disk worked out, and a record written and read back.
  * Then the same letter from a drawing program's own values, another letter's disk turned against a stop, a hand-traced letter, a
- * scanned outline that is reduced to its hull, and a damaged record.
+ * scanned outline that is reduced to its hull, a damaged record, a disk whose s is above 2^64, and a record of 45 bytes that is written
+ * again with 53.
  *
  *   bindings/c/run      builds and runs it on letter F of the papers
  *   bindings/c/run -    reads a description from standard input
  */
 #include <inttypes.h>
 #include <stdio.h>
-#include <string.h>
 
 #include "../../include/volkhidar.h"
 
 static const char letter_f[] = "0 0\n4 0\n2 3\n";
+
+/* Three points near corners of the em box: e is nearly the largest, and s is above 2^64. */
+static const char wide_letter[] = "0 -512\n2048 -509\n1 1536\n";
 
 static int refused(uint64_t refusal) {
     printf("refused %" PRIu64 "\n", refusal);
     return 1;
 }
 
+/* In decimal: the s of every disk is below 10^38, so it is two numbers of 19 digits. */
+static void print_wide(volkhidar_wide s) {
+    const uint64_t ten_to_19 = UINT64_C(10000000000000000000);
+    unsigned __int128 value = (unsigned __int128)s.hi << 64 | s.lo;
+    uint64_t front = (uint64_t)(value / ten_to_19), back = (uint64_t)(value % ten_to_19);
+    if (front) {
+        printf("%" PRIu64 "%019" PRIu64, front, back);
+    } else {
+        printf("%" PRIu64, back);
+    }
+}
+
 static void print_disk(const volkhidar_disk *d) {
-    printf("disk %" PRId64 " %" PRId64 " %" PRIu64 " %" PRIu64 "\n", d->x, d->y, d->e, d->s);
+    printf("disk %" PRId64 " %" PRId64 " %" PRIu64 " ", d->x, d->y, d->e);
+    print_wide(d->s);
+    printf("\n");
+}
+
+static int is_same_disk(const volkhidar_disk *c, const volkhidar_disk *d) {
+    return c->x == d->x && c->y == d->y && c->e == d->e && c->s.hi == d->s.hi && c->s.lo == d->s.lo;
+}
+
+static void print_record(const uint8_t *record) {
+    printf("record ");
+    for (size_t i = 0; i < VOLKHIDAR_RECORD_LENGTH; i++) printf("%02x", record[i]);
+    printf("\n");
 }
 
 static void print_answer(const volkhidar_disk_answer *answer) {
@@ -52,11 +79,10 @@ static int work_out(const uint8_t *text, size_t length) {
     uint8_t record[VOLKHIDAR_RECORD_LENGTH];
     uint64_t refusal = volkhidar_write_record(answer.disk, answer.support, record, sizeof record);
     if (refusal) return refused(refusal);
-    printf("record ");
-    for (size_t i = 0; i < sizeof record; i++) printf("%02x", record[i]);
+    print_record(record);
 
     volkhidar_record_answer read = volkhidar_read_record(record, sizeof record);
-    printf("\nread back %s\n", read.refusal == 0 && read.disk.s == answer.disk.s ? "yes" : "no");
+    printf("read back %s\n", read.refusal == 0 && is_same_disk(&read.disk, &answer.disk) ? "yes" : "no");
     return 0;
 }
 
@@ -119,7 +145,7 @@ static int work_out_hull(void) {
     volkhidar_disk_answer kept = volkhidar_smallest_disk(list, 2 * hull.count);
     if (kept.refusal) return refused(kept.refusal);
     print_answer(&kept);
-    printf("same disk %s\n", memcmp(&kept.disk, &all.disk, sizeof all.disk) == 0 ? "yes" : "no");
+    printf("same disk %s\n", is_same_disk(&kept.disk, &all.disk) ? "yes" : "no");
     refused(volkhidar_reduce_to_hull(list, length - 1).refusal);
     return 0;
 }
@@ -129,8 +155,22 @@ static int read_damaged_record(void) {
     uint8_t record[VOLKHIDAR_RECORD_LENGTH];
     uint64_t refusal = volkhidar_record_of((const uint8_t *)letter_f, sizeof letter_f - 1, record, sizeof record);
     if (refusal) return refused(refusal);
-    record[37] = 1;
+    record[45] = 1;
     refused(volkhidar_read_record(record, sizeof record).refusal);
+    return 0;
+}
+
+/* Letter F's record in 45 bytes: 8 for s, and all that is behind it 8 bytes earlier. */
+static int write_old_record_again(void) {
+    uint8_t old[VOLKHIDAR_OLD_RECORD_LENGTH] = {[7] = 12, [15] = 5, [23] = 6, [31] = 169, [37] = 2, [39] = 3, [41] = 4, [44] = 3};
+    volkhidar_record_answer read = volkhidar_read_record(old, sizeof old);
+    if (read.refusal) return refused(read.refusal);
+    print_disk(&read.disk);
+
+    uint8_t record[VOLKHIDAR_RECORD_LENGTH];
+    uint64_t refusal = volkhidar_write_record(read.disk, read.support, record, sizeof record);
+    if (refusal) return refused(refusal);
+    print_record(record);
     return 0;
 }
 
@@ -141,5 +181,6 @@ int main(int argc, char **argv) {
         return work_out(text, fread(text, 1, sizeof text, stdin));
     }
     return work_out((const uint8_t *)letter_f, sizeof letter_f - 1) || work_out_drawing() || work_out_against_stop() ||
-           work_out_traced() || work_out_hull() || read_damaged_record();
+           work_out_traced() || work_out_hull() || read_damaged_record() ||
+           work_out((const uint8_t *)wide_letter, sizeof wide_letter - 1) || write_old_record_again();
 }

@@ -28,9 +28,9 @@ mod raw;
 mod refusal;
 mod shapes;
 
-pub use raw::{Disk, Point};
+pub use raw::Point;
 pub use refusal::Refusal;
-pub use shapes::{Chosen, DrawnPoint, Enclosed, Preview, SupportSet};
+pub use shapes::{Chosen, Disk, DrawnPoint, Enclosed, Preview, SupportSet};
 
 use refusal::checked;
 use std::ops::Range;
@@ -45,7 +45,10 @@ pub const MOST_POINTS: usize = 4_096;
 pub const LIST_LENGTH: usize = 8_192;
 
 /// The bytes of a record.
-pub const RECORD_LENGTH: usize = 45;
+pub const RECORD_LENGTH: usize = 53;
+
+/// The bytes of a record of an em box of 1,000 units, which [`read_record`] takes as well.
+pub const OLD_RECORD_LENGTH: usize = 45;
 
 /// A list has at most this many traced points.
 pub const MOST_TRACED: usize = 1_024;
@@ -64,9 +67,9 @@ pub const MOST_TOLERANCE: i16 = 50;
 /// use volkhidar::{load, Refusal, LIST_LENGTH};
 ///
 /// let mut list = [-1; LIST_LENGTH];
-/// assert_eq!(load(b" 7 -250 \n\n+8 +0", &mut list), Ok(2));
-/// assert_eq!(list[..5], [7, -250, 8, 0, -1]);
-/// assert_eq!(load(b"7 751", &mut list), Err(Refusal::OutsideBox));
+/// assert_eq!(load(b" 7 -512 \n\n+8 +0", &mut list), Ok(2));
+/// assert_eq!(list[..5], [7, -512, 8, 0, -1]);
+/// assert_eq!(load(b"7 1537", &mut list), Err(Refusal::OutsideBox));
 /// assert_eq!(load(b"7\t0", &mut list), Err(Refusal::BadLine));
 /// assert_eq!(load(b"+-7 0", &mut list), Err(Refusal::BadLine));
 /// ```
@@ -139,17 +142,21 @@ pub fn glyph(sheet: &[u8], k: usize) -> Result<Range<usize>, Refusal> {
 /// assert_eq!(found.tests, 7);
 /// assert_eq!(list, [4, 0, 0, 0, 2, 0]);
 /// assert_eq!(smallest_disk(&mut [1, 2, 3]), Err(Refusal::OddLength));
+///
+/// // three points near corners of the em box: s is above 2⁶⁴
+/// let disk = smallest_disk(&mut [0, -512, 2048, -509, 1, 1536])?.disk;
+/// assert_eq!((disk.e, disk.s), (8_388_602, 147_286_249_292_406_046_810));
 /// # Ok::<(), Refusal>(())
 /// ```
 pub fn smallest_disk(list: &mut [i16]) -> Result<Enclosed, Refusal> {
     let answer = unsafe { raw::volkhidar_smallest_disk(list.as_mut_ptr(), list.len()) };
     checked(answer.refusal)?;
-    Ok(Enclosed { disk: answer.disk, support: answer.support.into(), tests: answer.tests })
+    Ok(Enclosed { disk: answer.disk.into(), support: answer.support.into(), tests: answer.tests })
 }
 
 /// The smallest disk that holds the points of the list, x and y by turns, and has the chosen points on its boundary: smallest of all
 /// disks with a fractional centre and squared radius that do, and no other is as small. One point chosen twice is chosen once. The list
-/// is only read. The centre may be outside the em box and the squared radius above the limit of 500,000; then [`whole_radius`],
+/// is only read. The centre may be outside the em box and the squared radius above the limit of 2,097,152; then [`whole_radius`],
 /// [`preview`] and [`write_record`] refuse the disk ([`Refusal::BadRecord`]). Within these limits they take it with points that
 /// [belong](SupportSet#belonging) to it, which the chosen points need not do.
 ///
@@ -173,7 +180,7 @@ pub fn smallest_disk_through(list: &[i16], chosen: Chosen) -> Result<Disk, Refus
     let (first, second) = chosen.pair();
     let answer = unsafe { raw::volkhidar_smallest_disk_through(list.as_ptr(), list.len(), first, second) };
     checked(answer.refusal)?;
-    Ok(answer.disk)
+    Ok(answer.disk.into())
 }
 
 /// The smallest disk that holds every traced point of the list, wherever each may really be. The list goes by threes, x, y and t: the
@@ -211,7 +218,7 @@ pub fn smallest_disk_through(list: &[i16], chosen: Chosen) -> Result<Disk, Refus
 pub fn smallest_disk_of_traced(list: &[i16]) -> Result<Disk, Refusal> {
     let answer = unsafe { raw::volkhidar_smallest_disk_of_traced(list.as_ptr(), list.len()) };
     checked(answer.refusal)?;
-    Ok(answer.disk)
+    Ok(answer.disk.into())
 }
 
 /// Reduces the list, x and y by turns, to the corners of the convex hull of its points, no three of them in a row, and answers how many
@@ -240,9 +247,9 @@ pub fn smallest_disk_of_traced(list: &[i16]) -> Result<Disk, Refusal> {
 /// assert_eq!(reduce_to_hull(&mut row), Ok(2));
 /// assert_eq!(row, [1, 1, 3, 3, 0, 0, 0, 0]);
 ///
-/// let mut outside = [7, 7, 7, 751];
+/// let mut outside = [7, 7, 7, 1537];
 /// assert_eq!(reduce_to_hull(&mut outside), Err(Refusal::OutsideBox));
-/// assert_eq!(outside, [7, 7, 7, 751]);
+/// assert_eq!(outside, [7, 7, 7, 1537]);
 /// # Ok::<(), Refusal>(())
 /// ```
 pub fn reduce_to_hull(list: &mut [i16]) -> Result<usize, Refusal> {
@@ -252,7 +259,7 @@ pub fn reduce_to_hull(list: &mut [i16]) -> Result<usize, Refusal> {
 }
 
 /// The radius to cut with: the least whole number R with R²e² greater than s. The circle of radius R about the disk's centre keeps off
-/// every point that the disk holds: each lies inside it and none on it.
+/// every point that the disk holds: each lies inside it and none on it. R is at most 1449.
 ///
 /// Refuses, in this order: [`Refusal::BadRecord`] for a disk and support set that a valid record could not hold;
 /// [`Refusal::PointsDoNotFit`] for points that do not [belong](SupportSet#belonging) to the disk.
@@ -272,7 +279,7 @@ pub fn reduce_to_hull(list: &mut [i16]) -> Result<usize, Refusal> {
 /// assert_eq!(whole_radius(Disk { x: 12, y: 5, e: 6, s: 169 }, support), Err(Refusal::PointsDoNotFit));
 /// ```
 pub fn whole_radius(disk: Disk, support: SupportSet) -> Result<u64, Refusal> {
-    let answer = unsafe { raw::volkhidar_whole_radius(disk, support.into()) };
+    let answer = unsafe { raw::volkhidar_whole_radius(disk.into(), support.into()) };
     checked(answer.refusal)?;
     Ok(answer.radius)
 }
@@ -293,7 +300,7 @@ pub fn whole_radius(disk: Disk, support: SupportSet) -> Result<u64, Refusal> {
 /// assert_eq!(preview(disk, SupportSet::Two(a, b)), Ok(Preview { x: 3.0, y: 4.0, radius: 6.0 }));
 /// ```
 pub fn preview(disk: Disk, support: SupportSet) -> Result<Preview, Refusal> {
-    let answer = unsafe { raw::volkhidar_preview(disk, support.into()) };
+    let answer = unsafe { raw::volkhidar_preview(disk.into(), support.into()) };
     checked(answer.refusal)?;
     Ok(Preview { x: answer.x, y: answer.y, radius: answer.radius })
 }
@@ -308,43 +315,54 @@ pub fn preview(disk: Disk, support: SupportSet) -> Result<Preview, Refusal> {
 /// use volkhidar::{write_record, Disk, Point, Refusal, SupportSet};
 ///
 /// let (disk, support) = (Disk { x: 7, y: 7, e: 1, s: 0 }, SupportSet::One(Point { x: 7, y: 7 }));
-/// let mut buffer = [0xEE; 46];
+/// let mut buffer = [0xEE; 54];
 /// assert_eq!(write_record(disk, support, &mut buffer), Ok(()));
 /// assert_eq!(buffer[..8], [0, 0, 0, 0, 0, 0, 0, 7]);
-/// assert_eq!(buffer[44..], [1, 0xEE]);
-/// assert_eq!(write_record(disk, support, &mut buffer[..44]), Err(Refusal::NoRoom));
+/// assert_eq!(buffer[52..], [1, 0xEE]);
+/// assert_eq!(write_record(disk, support, &mut buffer[..52]), Err(Refusal::NoRoom));
 ///
 /// // a single point belongs to no disk but itself
 /// assert_eq!(write_record(Disk { s: 1, ..disk }, support, &mut buffer), Err(Refusal::PointsDoNotFit));
 /// ```
 pub fn write_record(disk: Disk, support: SupportSet, buffer: &mut [u8]) -> Result<(), Refusal> {
-    checked(unsafe { raw::volkhidar_write_record(disk, support.into(), buffer.as_mut_ptr(), buffer.len()) })
+    checked(unsafe { raw::volkhidar_write_record(disk.into(), support.into(), buffer.as_mut_ptr(), buffer.len()) })
 }
 
-/// Reads a record: what [`write_record`] wrote is read back, and what is read, written again, gives its own bytes.
+/// Reads a record of [`RECORD_LENGTH`] bytes, or of [`OLD_RECORD_LENGTH`] by the limits of an em box of 1,000 units: x from 0 to 1000, y
+/// from −250 to 750, e at most 2,000,000 and s at most 500,000 e². What [`write_record`] wrote is read back. What is read, written again,
+/// gives its own bytes if they were 53, and otherwise the 53 bytes of the same disk and points.
 ///
 /// Refuses, in this order: [`Refusal::BadRecord`], for bytes of another length and for a count that disagrees with the repeats, too;
 /// [`Refusal::PointsDoNotFit`] for a valid record whose points do not [belong](SupportSet#belonging) to its disk.
 ///
 /// ```
-/// use volkhidar::{read_record, record_of, Point, Refusal, SupportSet, RECORD_LENGTH};
+/// use volkhidar::{read_record, record_of, write_record, Point, Refusal, SupportSet, OLD_RECORD_LENGTH, RECORD_LENGTH};
 ///
 /// let mut record = [0; RECORD_LENGTH];
 /// record_of(b"0 0\n3 0\n", &mut record)?;
 /// assert_eq!(read_record(&record)?.1, SupportSet::Two(Point { x: 0, y: 0 }, Point { x: 3, y: 0 }));
-/// assert_eq!(read_record(&record[..44]), Err(Refusal::BadRecord));
+/// assert_eq!(read_record(&record[..52]), Err(Refusal::BadRecord));
+///
+/// // the same disk and points in 45 bytes: s in 8 of them
+/// let mut old = [0; OLD_RECORD_LENGTH];
+/// (old[7], old[23], old[31]) = (3, 2, 9);
+/// (old[37], old[41], old[44]) = (3, 3, 2);
+/// let (disk, support) = read_record(&old)?;
+/// let mut again = [0; RECORD_LENGTH];
+/// write_record(disk, support, &mut again)?;
+/// assert_eq!(again, record);
 ///
 /// // (4, 0) in place of (3, 0), and then another count
-/// (record[37], record[41]) = (4, 4);
+/// (record[45], record[49]) = (4, 4);
 /// assert_eq!(read_record(&record), Err(Refusal::PointsDoNotFit));
-/// record[44] = 3;
+/// record[52] = 3;
 /// assert_eq!(read_record(&record), Err(Refusal::BadRecord));
 /// # Ok::<(), Refusal>(())
 /// ```
 pub fn read_record(bytes: &[u8]) -> Result<(Disk, SupportSet), Refusal> {
     let answer = unsafe { raw::volkhidar_read_record(bytes.as_ptr(), bytes.len()) };
     checked(answer.refusal)?;
-    Ok((answer.disk, answer.support.into()))
+    Ok((answer.disk.into(), answer.support.into()))
 }
 
 /// From a description to its record in one call: [`load`], [`smallest_disk`], [`write_record`]. The rest of the buffer stays.

@@ -1,7 +1,7 @@
 //! The C interface as `include/volkhidar.h` has it. A Rust slice's pointer is never null, and two slices never overlap where one is
 //! `&mut`: that is all that the functions ask of their callers.
 
-/// A point of the em box: x from 0 to 1000, y from −250 to 750. Points are ordered by x, then y.
+/// A point of the em box: x from 0 to 2048, y from −512 to 1536. Points are ordered by x, then y.
 #[repr(C)]
 #[derive(Clone, Copy, PartialEq, Eq, PartialOrd, Ord, Hash, Debug)]
 pub struct Point {
@@ -9,14 +9,21 @@ pub struct Point {
     pub y: i16,
 }
 
-/// Centre (x/e, y/e), squared radius s/e². A disk that a call returns is in lowest terms, so equal disks have equal numbers.
+/// The number hi · 2⁶⁴ + lo.
 #[repr(C)]
-#[derive(Clone, Copy, PartialEq, Eq, Hash, Debug)]
+#[derive(Clone, Copy, PartialEq, Eq, Debug)]
+pub struct Wide {
+    pub hi: u64,
+    pub lo: u64,
+}
+
+#[repr(C)]
+#[derive(Clone, Copy, PartialEq, Eq, Debug)]
 pub struct Disk {
     pub x: i64,
     pub y: i64,
     pub e: u64,
-    pub s: u64,
+    pub s: Wide,
 }
 
 #[repr(C)]
@@ -102,6 +109,11 @@ mod tests {
     use super::*;
 
     const ORIGIN: Point = Point { x: 0, y: 0 };
+    const NO_DISK: Disk = Disk { x: 0, y: 0, e: 0, s: Wide { hi: 0, lo: 0 } };
+
+    fn disk(x: i64, y: i64, e: u64, s: u64) -> Disk {
+        Disk { x, y, e, s: Wide { hi: 0, lo: s } }
+    }
 
     fn no_set(size: u64) -> Support {
         Support { size, points: [ORIGIN; 3] }
@@ -109,12 +121,12 @@ mod tests {
 
     #[test]
     fn sizes_that_no_support_set_has() {
-        let disk = Disk { x: 0, y: 0, e: 1, s: 0 };
+        let disk = disk(0, 0, 1, 0);
         for size in [0, 4, 5, 256, u64::MAX] {
-            let mut buffer = [0xEE; 45];
+            let mut buffer = [0xEE; 53];
             let mut write = |length| unsafe { volkhidar_write_record(disk, no_set(size), buffer.as_mut_ptr(), length) };
-            assert_eq!((write(45), write(44)), (7, 8));
-            assert_eq!(buffer, [0xEE; 45]);
+            assert_eq!((write(53), write(52)), (7, 8));
+            assert_eq!(buffer, [0xEE; 53]);
             assert_eq!(unsafe { volkhidar_whole_radius(disk, no_set(size)) }.refusal, 7);
             assert_eq!(unsafe { volkhidar_preview(disk, no_set(size)) }.refusal, 7);
         }
@@ -124,38 +136,60 @@ mod tests {
     /// The points (0, 0) and (2, 3) belong to the disk, (4, 0) is outside.
     #[test]
     fn points_behind_the_size_are_not_looked_at() {
-        let disk = Disk { x: 2, y: 3, e: 2, s: 13 };
+        let disk = disk(2, 3, 2, 13);
         let far = Point { x: i16::MIN, y: i16::MAX };
         for (size, third, refusal) in [(2, Point { x: 4, y: 0 }, 0), (2, far, 0), (3, Point { x: 4, y: 0 }, 15), (3, far, 7)] {
             let set = || Support { size, points: [ORIGIN, Point { x: 2, y: 3 }, third] };
-            let mut buffer = [0; 45];
+            let mut buffer = [0; 53];
             assert_eq!(unsafe { volkhidar_whole_radius(disk, set()) }.refusal, refusal);
             assert_eq!(unsafe { volkhidar_preview(disk, set()) }.refusal, refusal);
-            assert_eq!(unsafe { volkhidar_write_record(disk, set(), buffer.as_mut_ptr(), 45) }, refusal);
+            assert_eq!(unsafe { volkhidar_write_record(disk, set(), buffer.as_mut_ptr(), 53) }, refusal);
         }
     }
 
     /// Letter F's disk with two of its three points, and as a record.
     #[test]
     fn points_that_do_not_belong_get_nothing_else() {
-        let disk = Disk { x: 12, y: 5, e: 6, s: 169 };
+        let disk = disk(12, 5, 6, 169);
         let end = Point { x: 4, y: 0 };
         let set = || Support { size: 2, points: [ORIGIN, end, end] };
         let radius = unsafe { volkhidar_whole_radius(disk, set()) };
         assert_eq!((radius.refusal, radius.radius), (15, 0));
         let preview = unsafe { volkhidar_preview(disk, set()) };
         assert_eq!((preview.refusal, [preview.x, preview.y, preview.radius].map(f64::to_bits)), (15, [0; 3]));
-        let mut buffer = [0xEE; 46];
-        assert_eq!(unsafe { volkhidar_write_record(disk, set(), buffer.as_mut_ptr(), 46) }, 15);
-        assert_eq!(buffer, [0xEE; 46]);
+        let mut buffer = [0xEE; 54];
+        assert_eq!(unsafe { volkhidar_write_record(disk, set(), buffer.as_mut_ptr(), 54) }, 15);
+        assert_eq!(buffer, [0xEE; 54]);
 
-        let mut bytes = [0; 45];
-        (bytes[7], bytes[15], bytes[23], bytes[31]) = (12, 5, 6, 169);
-        (bytes[37], bytes[41], bytes[44]) = (4, 4, 2);
-        let read = unsafe { volkhidar_read_record(bytes.as_ptr(), 45) };
-        let Disk { x, y, e, s } = read.disk;
-        assert_eq!((read.refusal, x, y, e, s, read.support.size), (15, 0, 0, 0, 0, 0));
+        // in 53 bytes, and in 45, where all behind X, Y and E is 8 bytes earlier
+        for (length, earlier) in [(53, 0), (45, 8)] {
+            let mut bytes = vec![0; length];
+            (bytes[7], bytes[15], bytes[23], bytes[39 - earlier]) = (12, 5, 6, 169);
+            (bytes[45 - earlier], bytes[49 - earlier], bytes[52 - earlier]) = (4, 4, 2);
+            assert_nothing_else(&unsafe { volkhidar_read_record(bytes.as_ptr(), length) }, 15);
+        }
+    }
+
+    fn assert_nothing_else(read: &RecordAnswer, refusal: u64) {
+        assert_eq!((read.refusal, read.disk, read.support.size), (refusal, NO_DISK, 0));
         assert_eq!(read.support.points, [ORIGIN; 3]);
+    }
+
+    /// The disk of three points near corners of the em box has s above 2⁶⁴; without the high word of s it is another.
+    #[test]
+    fn both_words_of_s_count() {
+        let mut list = [0, -512, 2048, -509, 1, 1536];
+        let found = unsafe { volkhidar_smallest_disk(list.as_mut_ptr(), list.len()) };
+        let s = Wide { hi: 7, lo: 0xFC01_DF60_1D7D_C05A };
+        assert_eq!((found.refusal, found.disk), (0, Disk { x: 8_577_370_109, y: 4_290_778_103, e: 8_388_602, s }));
+        let set = || Support { size: 3, points: found.support.points };
+        let radius = unsafe { volkhidar_whole_radius(found.disk, set()) };
+        assert_eq!((radius.refusal, radius.radius), (0, 1_447));
+        for (hi, refusal) in [(0, 15), (6, 15), (8, 7), (u64::MAX, 7)] {
+            let other = Disk { s: Wide { hi, lo: s.lo }, ..found.disk };
+            let radius = unsafe { volkhidar_whole_radius(other, set()) };
+            assert_eq!((radius.refusal, radius.radius), (refusal, 0), "{hi}");
+        }
     }
 
     #[test]
@@ -179,24 +213,19 @@ mod tests {
     #[test]
     fn a_refused_answer_holds_nothing_else() {
         let bytes = [0; 3];
-        let answer = unsafe { volkhidar_read_record(bytes.as_ptr(), bytes.len()) };
-        let Disk { x, y, e, s } = answer.disk;
-        assert_eq!((answer.refusal, x, y, e, s, answer.support.size), (7, 0, 0, 0, 0, 0));
-        assert_eq!(answer.support.points, [ORIGIN; 3]);
+        assert_nothing_else(&unsafe { volkhidar_read_record(bytes.as_ptr(), bytes.len()) }, 7);
         let answer = unsafe { volkhidar_glyph(bytes.as_ptr(), bytes.len(), 0) };
         assert_eq!((answer.refusal, answer.start, answer.length), (10, 0, 0));
         let row = [0, 0, 2, 0, 4, 0];
         for (x, refusal) in [(7, 12), (2, 13)] {
             let chosen = Point { x, y: 0 };
             let answer = unsafe { volkhidar_smallest_disk_through(row.as_ptr(), row.len(), chosen, chosen) };
-            let Disk { x, y, e, s } = answer.disk;
-            assert_eq!((answer.refusal, x, y, e, s), (refusal, 0, 0, 0, 0));
+            assert_eq!((answer.refusal, answer.disk), (refusal, NO_DISK));
         }
         let traced: [(&[i16], u64); 5] = [(&[7; 4], 9), (&[], 5), (&[7; 3_075], 4), (&[7, 7, 51], 14), (&[7, 7, 8], 3)];
         for (list, refusal) in traced {
             let answer = unsafe { volkhidar_smallest_disk_of_traced(list.as_ptr(), list.len()) };
-            let Disk { x, y, e, s } = answer.disk;
-            assert_eq!((answer.refusal, x, y, e, s), (refusal, 0, 0, 0, 0));
+            assert_eq!((answer.refusal, answer.disk), (refusal, NO_DISK));
         }
         for (length, refusal) in [(3, 9), (0, 5), (8_194, 4), (2, 3)] {
             let mut list = vec![-1; length];

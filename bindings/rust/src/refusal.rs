@@ -16,10 +16,10 @@ pub enum Refusal {
     NoPoint = 5,
     /// A sheet shorter than its directory, or whose pairs break the rules.
     BadSheet = 6,
-    /// A record of another length than 45 bytes, with another count than its points have, or not valid; a disk and support set that a
-    /// valid record could not hold.
+    /// A record of another length than 53 or 45 bytes, with another count than its points have, or not valid; a disk and support set
+    /// that a valid record of 53 bytes could not hold.
     BadRecord = 7,
-    /// A list under 8,192 numbers; a buffer under 45 bytes.
+    /// A list under 8,192 numbers; a buffer under 53 bytes.
     NoRoom = 8,
     /// A point list of odd length; a list of traced points whose length is not a multiple of three.
     OddLength = 9,

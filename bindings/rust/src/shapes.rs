@@ -1,4 +1,29 @@
-use crate::raw::{self, Disk, Point};
+use crate::raw::{self, Point};
+
+/// Centre (x/e, y/e), squared radius s/e². A disk that a call returns is in lowest terms, so equal disks have equal numbers: e is from 1
+/// to 8,388,608, the centre in the em box and s at most 2,097,152 e², except that a disk of
+/// [`smallest_disk_through`](crate::smallest_disk_through) may lie and reach anywhere. s may be above 2⁶⁴.
+#[derive(Clone, Copy, PartialEq, Eq, Hash, Debug)]
+pub struct Disk {
+    pub x: i64,
+    pub y: i64,
+    pub e: u64,
+    pub s: u128,
+}
+
+impl From<Disk> for raw::Disk {
+    fn from(disk: Disk) -> raw::Disk {
+        let Disk { x, y, e, s } = disk;
+        raw::Disk { x, y, e, s: raw::Wide { hi: (s >> 64) as u64, lo: s as u64 } }
+    }
+}
+
+impl From<raw::Disk> for Disk {
+    fn from(disk: raw::Disk) -> Disk {
+        let raw::Disk { x, y, e, s } = disk;
+        Disk { x, y, e, s: u128::from(s.hi) << 64 | u128::from(s.lo) }
+    }
+}
 
 /// One to three points whose own smallest disk is that of the whole list, in rising order.
 ///
@@ -110,4 +135,19 @@ pub struct Preview {
     pub x: f64,
     pub y: f64,
     pub radius: f64,
+}
+
+#[cfg(test)]
+mod tests {
+    use super::*;
+
+    #[test]
+    fn the_words_of_s() {
+        assert_eq!(size_of::<raw::Disk>(), 40);
+        for (s, hi, lo) in [(0, 0, 0), (u128::from(u64::MAX), 0, u64::MAX), (7 << 64 | 5, 7, 5), (u128::MAX, u64::MAX, u64::MAX)] {
+            let disk = Disk { x: -1, y: 2, e: 3, s };
+            let words = raw::Disk { x: -1, y: 2, e: 3, s: raw::Wide { hi, lo } };
+            assert_eq!((raw::Disk::from(disk), Disk::from(words)), (words, disk));
+        }
+    }
 }

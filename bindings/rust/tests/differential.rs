@@ -3,6 +3,7 @@
 
 mod belonging;
 mod hull;
+mod records;
 
 use reference::chosen;
 use reference::damage;
@@ -10,7 +11,7 @@ use reference::drawing;
 use reference::engine::{flat, points_of, solve};
 use reference::geometry::{Disk as ExpectedDisk, Point as ExpectedPoint};
 use reference::inputs::AppendCase;
-use reference::limits::{FOOT, LEFT, RIGHT, TOP};
+use reference::limits::EM;
 use reference::random::Random;
 use reference::traced;
 use reference::{description, edges, figures, letters, lists, record, refusal, sheet};
@@ -25,7 +26,7 @@ fn ours<T>(answer: Result<T, Refusal>) -> Result<T, u8> {
 }
 
 fn disk_of(disk: Disk) -> ExpectedDisk {
-    ExpectedDisk { x: disk.x.into(), y: disk.y.into(), e: disk.e.into(), s: disk.s.into() }
+    ExpectedDisk { x: disk.x.into(), y: disk.y.into(), e: disk.e.into(), s: disk.s }
 }
 
 fn points(support: SupportSet) -> Vec<ExpectedPoint> {
@@ -42,7 +43,7 @@ fn lent(disk: &ExpectedDisk, support: &[ExpectedPoint]) -> Option<(Disk, Support
         _ => return None,
     };
     let (x, y) = (disk.x.try_into().ok()?, disk.y.try_into().ok()?);
-    Some((Disk { x, y, e: disk.e.try_into().ok()?, s: disk.s.try_into().ok()? }, set))
+    Some((Disk { x, y, e: disk.e.try_into().ok()?, s: disk.s }, set))
 }
 
 /// The engine on a list, then radius, preview and record of what it found.
@@ -77,7 +78,13 @@ fn compare_writer(disk: Disk, support: SupportSet, room: usize, name: &str) {
     }
 }
 
-/// A record that is read gives its own bytes again, and is what the engine gives for its points alone.
+/// A record's form in 53 bytes: for one of 45 the same numbers, with eight zeros before S.
+fn widened(bytes: &[u8]) -> Vec<u8> {
+    let zeros = if bytes.len() == OLD_RECORD_LENGTH { vec![0; RECORD_LENGTH - OLD_RECORD_LENGTH] } else { vec![] };
+    [&bytes[..bytes.len().min(24)], &zeros, &bytes[bytes.len().min(24)..]].concat()
+}
+
+/// A record that is read gives its form in 53 bytes again, and is what the engine gives for its points alone.
 fn compare_reader(bytes: &[u8], name: &str) {
     let seen = ours(read_record(bytes));
     let expected = number(record::read(bytes));
@@ -85,7 +92,8 @@ fn compare_reader(bytes: &[u8], name: &str) {
     if let Ok((disk, support)) = seen {
         let mut again = [0; RECORD_LENGTH];
         assert_eq!(write_record(disk, support, &mut again), Ok(()), "{name}");
-        assert_eq!(again[..], *bytes, "written again: {name}");
+        assert_eq!(again[..], widened(bytes), "written again: {name}");
+        assert_eq!(read_record(&again), Ok((disk, support)), "read again: {name}");
         let found = smallest_disk(&mut flat(&points(support))).unwrap();
         assert_eq!((found.disk, found.support), (disk, support), "its points alone: {name}");
     }
@@ -106,7 +114,7 @@ fn compare_description(text: &[u8], room: usize, name: &str) {
     let loaded = ours(load(text, &mut list));
     assert_eq!(loaded, number(description::load(text, &mut expected_list)), "loader: {name}");
     assert_eq!(list, expected_list, "the loader's list: {name}");
-    for length in [45, 50, 44] {
+    for length in [53, 60, 52, 45] {
         let (mut buffer, mut expected_buffer) = (vec![0xEE; length], vec![0xEE; length]);
         let written = ours(record_of(text, &mut buffer));
         let expected = expected_record(text, &mut expected_buffer);
@@ -216,7 +224,7 @@ fn drawn_traced(longest: usize, random: &mut Random) -> Vec<i16> {
     let mut list = Vec::with_capacity(3 * n);
     for p in points {
         let t = common.unwrap_or_else(|| random.coordinate(0, MOST_TOLERANCE));
-        list.extend([p.x.clamp(LEFT + t, RIGHT - t), p.y.clamp(FOOT + t, TOP - t), t]);
+        list.extend([p.x.clamp(EM.left + t, EM.right - t), p.y.clamp(EM.foot + t, EM.top - t), t]);
     }
     if random.chance(30) {
         damage_traced(&mut list, random);
@@ -230,8 +238,8 @@ fn damage_traced(list: &mut Vec<i16>, random: &mut Random) {
         let at = 3 * random.below(list.len() / 3);
         let t = list[at + 2].clamp(0, MOST_TOLERANCE);
         match random.below(3) {
-            0 => list[at] = random.pick(&[LEFT + t - 1, RIGHT - t + 1, i16::MIN, i16::MAX]),
-            1 => list[at + 1] = random.pick(&[FOOT + t - 1, TOP - t + 1, i16::MIN, i16::MAX]),
+            0 => list[at] = random.pick(&[EM.left + t - 1, EM.right - t + 1, i16::MIN, i16::MAX]),
+            1 => list[at + 1] = random.pick(&[EM.foot + t - 1, EM.top - t + 1, i16::MIN, i16::MAX]),
             _ => list[at + 2] = random.pick(&[-1, MOST_TOLERANCE + 1, i16::MIN, i16::MAX]),
         }
     }
@@ -306,7 +314,7 @@ fn descriptions_at_the_limits() {
     for count in [4_095, 4_096, 4_097] {
         let mut text = b"1 2\n".repeat(count);
         compare_description(&text, 8_192, &format!("{count} points"));
-        text.extend(b"\n  \n1001 0\nx");
+        text.extend(b"\n  \n2049 0\nx");
         compare_description(&text, 8_192, &format!("{count} points and faults"));
     }
     for length in [65_534, 65_535, 65_536] {
@@ -350,7 +358,7 @@ fn points_from_a_drawing_program() {
 fn whole_numbers_as_floats() {
     for seed in 0..20_000 {
         let mut random = Random::new(seed);
-        let (x, y) = (random.between(-1, 1_001) as i32, random.between(-251, 751) as i32);
+        let (x, y) = (random.between(-1, 2_049) as i32, random.between(-513, 1_537) as i32);
         let points = random.below(9);
         let front = flat(&lists::draw(random.pick(&lists::KINDS), points + 1, &mut random))[..2 * points].to_vec();
         let (mut list, mut other) = (vec![9; 8_192], vec![-9; 8_200]);
@@ -386,14 +394,20 @@ fn choices_from_long_lists() {
     }
 }
 
-/// The centre is (500, −124,999.5): all three points are 125,000.5 away from it, and no record can hold such a disk.
+/// The first centre is (1024, −524,287.5): all three points are 524,288.5 away from it. The second is above and to the left of the em box,
+/// with S above 2⁶⁴. No record can hold such a disk.
 #[test]
-fn a_centre_far_outside_the_em_box() {
-    let (a, top, b) = (Point { x: 0, y: 0 }, Point { x: 500, y: 1 }, Point { x: 1_000, y: 0 });
-    let disk = Disk { x: 1_000, y: -249_999, e: 2, s: 250_001 * 250_001 };
-    let list = [0, 0, 1_000, 0, 500, 1];
+fn centres_far_outside_the_em_box() {
+    assert_far_outside([0, 0, 1_024, 1, 2_048, 0], Disk { x: 2_048, y: -1_048_575, e: 2, s: 1_048_577 * 1_048_577 });
+    let wide = Disk { x: -1_993_793_141, y: 5_067_292_949, e: 2_000_342, s: 41_081_194_129_818_256_690 };
+    assert_far_outside([0, -512, 1_301, 300, 2_048, 1_535], wide);
+}
+
+/// The disk of three points in rising order with the second chosen.
+fn assert_far_outside(list: [i16; 6], disk: Disk) {
+    let [a, top, b] = [0, 2, 4].map(|at| Point { x: list[at], y: list[at + 1] });
     assert_eq!(smallest_disk_through(&list, Chosen::One(top)), Ok(disk));
-    compare_chosen(&list, chosen::Chosen::One(ExpectedPoint::new(500, 1)), "a point a unit above two others");
+    compare_chosen(&list, chosen::Chosen::One(ExpectedPoint::new(top.x, top.y)), &format!("{disk:?}"));
     for support in [SupportSet::One(top), SupportSet::Three(a, top, b)] {
         let mut buffer = [0xEE; RECORD_LENGTH];
         assert_eq!(whole_radius(disk, support), Err(Refusal::BadRecord));
@@ -442,12 +456,12 @@ fn traced_lists_at_the_limits() {
 /// Squares of side 100 in the four corners of the em box: the disk is as large as one can be.
 #[test]
 fn the_largest_disk_of_traced_points() {
-    let list = [50, -200, 50, 950, -200, 50, 50, 700, 50, 950, 700, 50];
-    let disk = Disk { x: 500, y: 250, e: 1, s: 500_000 };
+    let list = [50, -462, 50, 1_998, -462, 50, 50, 1_486, 50, 1_998, 1_486, 50];
+    let disk = Disk { x: 1_024, y: 512, e: 1, s: 2_097_152 };
     assert_eq!(smallest_disk_of_traced(&list), Ok(disk));
-    let (foot, top) = (Point { x: 0, y: -250 }, Point { x: 1_000, y: 750 });
-    assert_eq!(whole_radius(disk, SupportSet::Two(foot, top)), Ok(708));
-    assert_eq!(whole_radius(disk, SupportSet::One(Point { x: 50, y: -200 })), Err(Refusal::PointsDoNotFit));
+    let (foot, top) = (Point { x: 0, y: -512 }, Point { x: 2_048, y: 1_536 });
+    assert_eq!(whole_radius(disk, SupportSet::Two(foot, top)), Ok(1_449));
+    assert_eq!(whole_radius(disk, SupportSet::One(Point { x: 50, y: -462 })), Err(Refusal::PointsDoNotFit));
     compare_traced(&list, "squares in the corners of the em box");
 }
 
@@ -465,12 +479,12 @@ fn traced_points_refused_by_hand() {
         (&[i16::MAX, i16::MAX, 50], 3),
         (&[i16::MIN, i16::MIN, 50], 3),
         (&[49, 0, 50], 3),
-        (&[951, 0, 50], 3),
-        (&[500, -201, 50], 3),
-        (&[500, 701, 50], 3),
+        (&[1_999, 0, 50], 3),
+        (&[500, -463, 50], 3),
+        (&[500, 1_487, 50], 3),
         (&[500, 0, 50, 1, 0, 2, 500, 0, 51], 3),
         (&[500, 0, 50, 500, 0, 51, 1, 0, 2], 14),
-        (&[1_001, 0, 0], 3),
+        (&[2_049, 0, 0], 3),
     ];
     for (list, refusal) in cases {
         let name = format!("{} numbers, {:?}", list.len(), &list[..list.len().min(9)]);
@@ -516,7 +530,7 @@ fn fuzzed_bytes() {
     for seed in 0..100_000 {
         let mut random = Random::new(seed);
         let name = format!("seed {seed}");
-        let any = drawn_bytes(&mut random, 90, &[]);
+        let any = drawn_bytes(&mut random, 110, &[]);
         compare_reader(&any, &name);
         compare_sheet(&any, random.below(4), &name);
         let few = drawn_bytes(&mut random, 60, &[0, 0, 0, 0, 1, 2, 6, 10]);
@@ -552,11 +566,12 @@ fn compare_any_choice(list: &[i16], random: &mut Random, name: &str) {
 /// Any numbers at all as a disk and a support set.
 fn compare_record_like(random: &mut Random, name: &str) {
     let small = |random: &mut Random| random.word() >> random.below(64);
-    let disk = Disk { x: small(random) as i64, y: small(random) as i64, e: small(random), s: small(random) };
+    let s = (u128::from(random.word()) << 64 | u128::from(random.word())) >> random.below(128);
+    let disk = Disk { x: small(random) as i64, y: small(random) as i64, e: small(random), s };
     let point = |random: &mut Random| Point { x: random.word() as i16, y: random.word() as i16 };
     let (a, b, c) = (point(random), point(random), point(random));
     let support = random.pick(&[SupportSet::One(a), SupportSet::Two(a, b), SupportSet::Three(a, b, c)]);
-    let room = random.below(60);
+    let room = random.below(70);
     compare_writer(disk, support, room, name);
     compare_figures(disk, support, name);
 }

@@ -5,27 +5,29 @@ use super::{compare_figures, compare_reader, compare_writer, lent, ours};
 use reference::damage::single_faults;
 use reference::engine::{flat, solve};
 use reference::geometry::{scalar, Disk as ExpectedDisk, Point as ExpectedPoint};
-use reference::limits::{FOOT, LEFT, MOST_E, MOST_SQUARE, RIGHT, TOP};
+use reference::limits::EM;
+use reference::record::{bytes_of, LONG, SHORT};
 use reference::support::sets;
-use reference::{letters, lists, record};
+use reference::{letters, lists};
 use std::collections::BTreeMap;
 use volkhidar::*;
 
 /// X, Y, E, S.
-type Numbers = (i128, i128, i128, i128);
+pub type Numbers = (i128, i128, i128, u128);
 
-fn disk_with((x, y, e, s): Numbers) -> ExpectedDisk {
+pub fn disk_with((x, y, e, s): Numbers) -> ExpectedDisk {
     ExpectedDisk { x, y, e, s }
 }
 
 /// The number of the refusal that the four calls have for a disk and its points, or 0: they must answer as the reference does, and all the
 /// same. None where our types cannot hold the numbers.
-fn compare_calls(disk: &ExpectedDisk, set: &[ExpectedPoint], name: &str) -> Option<u8> {
+pub fn compare_calls(disk: &ExpectedDisk, set: &[ExpectedPoint], name: &str) -> Option<u8> {
     let (d, t) = lent(disk, set)?;
-    let bytes = record::bytes_of(disk, set);
+    let bytes = bytes_of(&LONG, disk, set);
     compare_figures(d, t, name);
     compare_writer(d, t, 60, name);
     compare_reader(&bytes, name);
+    compare_reader(&bytes_of(&SHORT, disk, set), name);
     let mut buffer = [0; RECORD_LENGTH];
     let radius = ours(whole_radius(d, t)).err();
     let others = [ours(preview(d, t)).err(), ours(write_record(d, t, &mut buffer)).err(), ours(read_record(&bytes)).err()];
@@ -73,23 +75,6 @@ fn answers_of_the_engine_damaged() {
     assert!(times[0] > 200 && times[7] > 20_000 && times[15] > 50_000, "{times:?}");
 }
 
-/// Nearly all are refused, with 7 or 15; in a few the points are others and belong to the disk all the same.
-#[test]
-fn records_with_one_bit_flipped() {
-    let mut times = [0; 16];
-    for case in lists::mixed(500, 16) {
-        let answer = solve(&mut flat(&case.points)).unwrap();
-        let whole = record::bytes_of(&answer.disk, &answer.support);
-        for bit in 0..8 * whole.len() {
-            let mut bytes = whole.clone();
-            bytes[bit / 8] ^= 1 << (bit % 8);
-            compare_reader(&bytes, &format!("bit {bit}, {}", case.name));
-            times[usize::from(ours(read_record(&bytes)).err().unwrap_or(0))] += 1;
-        }
-    }
-    assert!([7, 15].iter().all(|&number| times[number] > 5_000), "{times:?}");
-}
-
 /// Belonging by the angles, for a valid disk: one point is the disk, two are opposite, three have only acute angles; all on the boundary.
 fn belongs_by_angles(disk: &ExpectedDisk, set: &[ExpectedPoint]) -> bool {
     let is_midway = |a: ExpectedPoint, b: ExpectedPoint| {
@@ -107,14 +92,14 @@ fn belongs_by_angles(disk: &ExpectedDisk, set: &[ExpectedPoint]) -> bool {
 
 /// Circles with many whole points, in the middle of the em box and over its edges.
 const CIRCLES: [Numbers; 9] = [
-    (500, 250, 1, 25),
-    (500, 250, 1, 1_105),
-    (500, 250, 1, 27_625),
-    (1_001, 501, 2, 50),
-    (1_001, 501, 2, 5_525 * 2),
-    (1_000, 501, 2, 5_525),
-    (1, -250, 1, 325),
-    (999, 749, 1, 5_525),
+    (1_024, 512, 1, 25),
+    (1_024, 512, 1, 1_105),
+    (1_024, 512, 1, 27_625),
+    (2_049, 1_025, 2, 50),
+    (2_049, 1_025, 2, 5_525 * 2),
+    (2_048, 1_025, 2, 5_525),
+    (1, -512, 1, 325),
+    (2_047, 1_535, 1, 5_525),
     (12, 5, 6, 169),
 ];
 
@@ -123,7 +108,7 @@ const CIRCLES: [Numbers; 9] = [
 fn every_set_of_points_on_one_circle() {
     let mut times = [[0; 2]; 4];
     for disk in CIRCLES.map(disk_with) {
-        let every = (LEFT..=RIGHT).flat_map(|x| (FOOT..=TOP).map(move |y| ExpectedPoint::new(x, y)));
+        let every = (EM.left..=EM.right).flat_map(|x| (EM.foot..=EM.top).map(move |y| ExpectedPoint::new(x, y)));
         let on_boundary: Vec<_> = every.filter(|&p| disk.has_on_boundary(p)).collect();
         for set in sets(&on_boundary) {
             let name = format!("{disk:?} with {set:?}");
@@ -140,7 +125,7 @@ fn every_set_of_points_on_one_circle() {
 type Row = (&'static str, Numbers, &'static [(i16, i16)], u8);
 
 #[rustfmt::skip]
-const BY_HAND: [Row; 36] = [
+const BY_HAND: [Row; 43] = [
     ("letter F with a point left out", (12, 5, 6, 169), &[(2, 3), (4, 0)], 15),
     ("letter F with a point left out", (12, 5, 6, 169), &[(0, 0), (4, 0)], 15),
     ("letter F with a point left out", (12, 5, 6, 169), &[(0, 0), (2, 3)], 15),
@@ -164,6 +149,13 @@ const BY_HAND: [Row; 36] = [
     ("letter K with its other two", (500, 250, 1, 500_000), &[(0, 750), (1000, -250)], 0),
     ("letter K with three points", (500, 250, 1, 500_000), &[(0, -250), (0, 750), (1000, 750)], 15),
     ("letter K with its centre", (500, 250, 1, 500_000), &[(500, 250)], 15),
+    ("letter K with S moved", (500, 250, 1, 500_001), &[(0, -250), (1000, 750)], 15),
+    ("opposite corners of the em box", (1024, 512, 1, 2_097_152), &[(0, -512), (2048, 1536)], 0),
+    ("its other two", (1024, 512, 1, 2_097_152), &[(0, 1536), (2048, -512)], 0),
+    ("three corners of the em box", (1024, 512, 1, 2_097_152), &[(0, -512), (0, 1536), (2048, 1536)], 15),
+    ("opposite corners with S moved", (1024, 512, 1, 2_097_151), &[(0, -512), (2048, 1536)], 15),
+    ("one corner of the em box", (2048, 1536, 1, 0), &[(2048, 1536)], 0),
+    ("S above 2^64", (8_577_370_109, 4_290_778_103, 8_388_602, 147_286_249_292_406_046_810), &[(0, -512), (1, 1536), (2048, -509)], 0),
     ("a point and the disk beside it", (0, 0, 1, 0), &[(0, 1)], 15),
     ("a point and a disk around it", (0, 0, 1, 1), &[(0, 0)], 15),
     ("a point and a disk through it", (1, 0, 1, 1), &[(0, 0)], 15),
@@ -173,8 +165,8 @@ const BY_HAND: [Row; 36] = [
     ("obtuse, on a circle with acute sets", (5, 5, 1, 25), &[(0, 5), (2, 1), (2, 9)], 15),
     ("7 first: a common divisor", (12, 6, 6, 169), &[(0, 0), (4, 0)], 7),
     ("7 first: a common divisor, of the disk of a point", (0, 0, 2, 0), &[(0, 0)], 7),
-    ("7 first: S too large", (500, 250, 1, 500_001), &[(0, -250), (1000, 750)], 7),
-    ("7 first: a point outside the em box", (12, 5, 6, 169), &[(0, 0), (4, 0), (1001, 0)], 7),
+    ("7 first: S too large", (1024, 512, 1, 2_097_153), &[(0, -512), (2048, 1536)], 7),
+    ("7 first: a point outside the em box", (12, 5, 6, 169), &[(0, 0), (4, 0), (2049, 0)], 7),
     ("7 first: falling points", (12, 5, 6, 169), &[(4, 0), (0, 0)], 7),
     ("7 first: a point twice", (2, 0, 1, 4), &[(0, 0), (4, 0), (4, 0)], 7),
 ];
@@ -195,21 +187,22 @@ fn the_first_rule_that_is_broken_decides() {
     let two = letters::points(&[(0, 0), (4, 0)]);
     for (numbers, due) in [((12, 5, 6, 169), 15), ((12, 6, 6, 169), 7)] {
         let (d, t) = lent(&disk_with(numbers), &two).unwrap();
-        for room in [0, 44, 45, 60] {
+        for room in [0, 45, 52, 53, 60] {
             let mut buffer = vec![0xEE; room];
             assert_eq!(ours(write_record(d, t, &mut buffer)), Err(if room < RECORD_LENGTH { 8 } else { due }));
             assert_eq!(buffer, vec![0xEE; room]);
         }
-        let bytes = record::bytes_of(&disk_with(numbers), &two);
-        assert_eq!(ours(read_record(&bytes)), Err(due));
-        for length in [0, 44, 46, 90] {
-            let mut bytes = bytes.clone();
-            bytes.resize(length, 0);
-            assert_eq!(ours(read_record(&bytes)), Err(7), "{length} bytes");
-        }
-        for count in [0, 1, 3, 4, 255] {
-            let counted = [&bytes[..44], &[count]].concat();
-            assert_eq!(ours(read_record(&counted)), Err(7), "count {count}");
+        for bytes in [LONG, SHORT].map(|form| bytes_of(&form, &disk_with(numbers), &two)) {
+            assert_eq!(ours(read_record(&bytes)), Err(due));
+            for length in [0, 44, 46, 52, 54, 90] {
+                let mut bytes = bytes.clone();
+                bytes.resize(length, 0);
+                assert_eq!(ours(read_record(&bytes)), Err(7), "{length} bytes");
+            }
+            for count in [0, 1, 3, 4, 255] {
+                let counted = [&bytes[..bytes.len() - 1], &[count]].concat();
+                assert_eq!(ours(read_record(&counted)), Err(7), "count {count}");
+            }
         }
     }
 }
@@ -217,13 +210,13 @@ fn the_first_rule_that_is_broken_decides() {
 /// Every disk whose numbers are at their limits, a step within them or, but for S, in the middle; some of these have a common divisor.
 fn disks_about_the_limits() -> Vec<ExpectedDisk> {
     let mut all = vec![];
-    for e in [1, 2, MOST_E - 1, MOST_E] {
+    for e in [1, 2, EM.most_e - 1, EM.most_e] {
         let places = |least: i16, most: i16| {
             let [least, most] = [least, most].map(|edge| i128::from(edge) * e);
             [least, least + 1, (least + most) / 2, most - 1, most]
         };
-        let centres = places(LEFT, RIGHT).into_iter().flat_map(|x| places(FOOT, TOP).map(|y| (x, y)));
-        let largest = MOST_SQUARE * e * e;
+        let centres = places(EM.left, EM.right).into_iter().flat_map(|x| places(EM.foot, EM.top).map(|y| (x, y)));
+        let largest = (EM.most_square * e * e).unsigned_abs();
         all.extend(centres.flat_map(|(x, y)| [0, 1, largest - 1, largest].map(|s| ExpectedDisk { x, y, e, s })));
     }
     all
@@ -231,7 +224,7 @@ fn disks_about_the_limits() -> Vec<ExpectedDisk> {
 
 #[test]
 fn disks_at_the_limits() {
-    let corners = [(LEFT, FOOT), (LEFT, TOP), (500, 250), (RIGHT, FOOT), (RIGHT, TOP - 1), (RIGHT, TOP)];
+    let corners = [(0, -512), (0, 1_536), (1_024, 512), (2_048, -512), (2_048, 1_535), (2_048, 1_536)];
     let sets = sets(&letters::points(&corners));
     let mut times = [0; 16];
     for disk in disks_about_the_limits() {
@@ -246,9 +239,9 @@ fn disks_at_the_limits() {
 /// The acute triangle of three points near corners of the em box: E is nearly the largest.
 #[test]
 fn a_disk_with_a_large_e() {
-    let list = letters::points(&[(0, -250), (1000, -247), (1, 750)]);
+    let list = letters::points(&[(0, -512), (2048, -509), (1, 1536)]);
     let answer = solve(&mut flat(&list)).unwrap();
-    assert_eq!((answer.disk.e, answer.support.len()), (1_999_994, 3));
+    assert_eq!((answer.disk.e, answer.support.len()), (8_388_602, 3));
     assert_eq!(compare_calls(&answer.disk, &answer.support, "as it is"), Some(0));
     for (disk, set) in single_faults(&answer.disk, &answer.support, &[]) {
         let name = format!("{disk:?} with {set:?}");
@@ -258,7 +251,7 @@ fn a_disk_with_a_large_e() {
 
 /// The squares of the distances that points of the em box have, each with the steps from one point to the other.
 fn square_distances() -> BTreeMap<u64, (i16, i16)> {
-    let steps = (0..=RIGHT - LEFT).flat_map(|dx| (0..=TOP - FOOT).map(move |dy| (dx, dy)));
+    let steps = (0..=EM.side()).flat_map(|dx| (0..=EM.side()).map(move |dy| (dx, dy)));
     steps.map(|(dx, dy)| (u64::from(dx.unsigned_abs()).pow(2) + u64::from(dy.unsigned_abs()).pow(2), (dx, dy))).collect()
 }
 
@@ -268,13 +261,13 @@ fn square_distances() -> BTreeMap<u64, (i16, i16)> {
 fn every_whole_radius() {
     let distances = square_distances();
     let mut at = 0;
-    for r in 1..=707 {
+    for r in 1..=1_448 {
         let below = distances.range(..4 * r * r).next_back().map(|(_, &steps)| (steps, r));
         let equal = distances.get(&(4 * r * r)).map(|&steps| (steps, r + 1));
         let above = distances.range(4 * r * r + 1..).next().map(|(_, &steps)| (steps, r + 1));
         at += usize::from(equal.is_some());
         for ((dx, dy), radius) in [below, above].into_iter().map(Option::unwrap).chain(equal) {
-            let set = rising(letters::points(&[(LEFT, TOP), (LEFT + dx, TOP - dy)]));
+            let set = rising(letters::points(&[(EM.left, EM.top), (EM.left + dx, EM.top - dy)]));
             let disk = ExpectedDisk::of_two(set[0], set[1]);
             let name = format!("{set:?}");
             assert_eq!(compare_calls(&disk, &set, &name), Some(0), "{name}");
@@ -282,5 +275,5 @@ fn every_whole_radius() {
             assert_eq!(whole_radius(d, t), Ok(radius), "{name}");
         }
     }
-    assert!(at > 500, "{at}");
+    assert!(at > 1_000, "{at}");
 }

@@ -3,7 +3,7 @@
 use super::{compare_list, ours};
 use reference::engine::{flat, points_of};
 use reference::geometry::{gcd, Point};
-use reference::limits::{FOOT, LEFT};
+use reference::limits::EM;
 use reference::random::Random;
 use reference::{damage, hull, letters, lists};
 use std::collections::BTreeSet;
@@ -136,8 +136,8 @@ fn hulls_by_hand() {
         // points on every side, inside, and corners repeated
         (&[2, 0, 4, 0, 4, 1, 4, 0, 4, 3, 1, 3, 0, 3, 0, 2, 0, 0, 1, 1, 3, 2, 0, 0], &[0, 0, 4, 0, 4, 3, 0, 3]),
         // as near to a row as three points of the em box can be, and its corners
-        (&[0, -250, 1_000, 749, 999, 748], &[0, -250, 999, 748, 1_000, 749]),
-        (&[1_000, 750, 0, -250, 0, 750, 500, 250, 1_000, -250], &[0, -250, 1_000, -250, 1_000, 750, 0, 750]),
+        (&[0, -512, 2_048, 1_535, 2_047, 1_534], &[0, -512, 2_047, 1_534, 2_048, 1_535]),
+        (&[2_048, 1_536, 0, -512, 0, 1_536, 1_024, 512, 2_048, -512], &[0, -512, 2_048, -512, 2_048, 1_536, 0, 1_536]),
     ];
     for (list, kept) in cases {
         let mut reduced = list.to_vec();
@@ -159,9 +159,9 @@ fn lists_refused_by_hand() {
         (&[7; 8_194], 4),
         (&[-1; 8_192], 3),
         (&[-1, 0], 3),
-        (&[1_001, 0], 3),
-        (&[0, -251], 3),
-        (&[9, 9, 5, 5, 7, 1, 0, 751], 3),
+        (&[2_049, 0], 3),
+        (&[0, -513], 3),
+        (&[9, 9, 5, 5, 7, 1, 0, 1_537], 3),
         (&[i16::MIN, i16::MAX], 3),
     ];
     for (list, refusal) in cases {
@@ -184,15 +184,15 @@ fn every_point_of_a_square() {
 }
 
 /// A convex polygon, counterclockwise from its least corner: its sides are all (a, b) without a common divisor and with |a| + |b| at most
-/// 16, by their directions. With 17 it would be too large for the em box.
+/// 21, by their directions. With 22 it would be too large for the em box.
 fn polygon_of_many_corners() -> Vec<Point> {
-    let all = (0..=16_i16).flat_map(|a| (-16..=16_i16).map(move |b| (a, b)));
-    let is_side = |&(a, b): &(i16, i16)| a + b.abs() <= 16 && gcd(a.into(), b.into()) == 1 && (a, b) != (0, -1);
+    let all = (0..=21_i16).flat_map(|a| (-21..=21_i16).map(move |b| (a, b)));
+    let is_side = |&(a, b): &(i16, i16)| a + b.abs() <= 21 && gcd(a.into(), b.into()) == 1 && (a, b) != (0, -1);
     let mut sides: Vec<(i16, i16)> = all.filter(is_side).collect();
     sides.sort_by(|&(a, b), &(c, d)| (b * c).cmp(&(a * d)));
     let back: Vec<(i16, i16)> = sides.iter().map(|&(a, b)| (-a, -b)).collect();
     let depth: i16 = sides.iter().map(|&(_, b)| b.min(0)).sum();
-    let mut at = Point::new(LEFT, FOOT - depth);
+    let mut at = Point::new(EM.left, EM.foot - depth);
     let mut corners = Vec::new();
     for (a, b) in [sides, back].concat() {
         corners.push(at);
@@ -205,7 +205,7 @@ fn polygon_of_many_corners() -> Vec<Point> {
 #[test]
 fn a_hull_of_many_corners() {
     let corners = polygon_of_many_corners();
-    assert_eq!(corners.len(), 320);
+    assert_eq!(corners.len(), 560);
     for seed in 0..10 {
         let mut random = Random::new(seed);
         let mut points = corners.clone();
