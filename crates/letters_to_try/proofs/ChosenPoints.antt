@@ -17,4 +17,4 @@ use Rattle.letters_to_try.specs.ChosenPoints.{choices, AllAnswer}
 pub choices-answer : AllAnswer choices
 unfolding gcd steps inBox allInBox holds points flat same has allOf outside lowestTerms diameterDisk turnedBy circle boundaryDisk tested step through run
     encloseOf isOn fits fittingDisk throughOf
-choices-answer = refl & refl & refl & refl & refl & refl & refl & refl & refl & refl & refl & refl & refl & refl & tt
+choices-answer = refl & refl & refl & refl & refl & refl & refl & refl & refl & refl & refl & refl & refl & refl & refl & tt

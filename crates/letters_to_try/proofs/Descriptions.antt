@@ -77,6 +77,8 @@ edges-load =
     & loads _ refl refl
     & loads _ refl refl
     & loads _ refl refl
+    & loads _ refl refl
+    & loads _ refl refl
     & tt
 
 pub numbers-read : AllNumbers numbers

@@ -19,4 +19,4 @@ unfolding gcd steps holds inBox allInBox before rising centreInBox validDiskIn v
     outside lowestTerms diameterDisk turnedBy circle boundaryDisk tested step through run sameDisk fronted isDiskOf leftOut noneHas belongs
 checks-answer =
     refl & refl & refl & refl & refl & refl & refl & refl & refl & refl & refl & refl & refl & refl & refl & refl & refl & refl & refl & refl & refl
-    & refl & refl & refl & refl & tt
+    & refl & refl & refl & refl & refl & refl & tt

@@ -7,3 +7,4 @@ pub mod ChosenPoints
 pub mod TracedPoints
 pub mod HullPoints
 pub mod FittingPoints
+pub mod WiderEm

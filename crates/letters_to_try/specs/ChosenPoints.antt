@@ -14,7 +14,7 @@ use Rattle.geometry.specs.Points.{flat}
 use Rattle.chosen_points.specs.declared.Chosen.{Chosen}
 use Rattle.chosen_points.specs.declared.Chosen.the-variants.{One, Two}
 use Rattle.chosen_points.specs.Chosen.{throughOf}
-use Rattle.letters_to_try.specs.Letters.{at, disk}
+use Rattle.letters_to_try.specs.Letters.{at, below, disk}
 
 pub record Choice : Type 0 where
   pub list : List Point
@@ -51,13 +51,19 @@ choices =
       chosen = One (at 500 1);
       answer = given (record { x = pos 1000; y = negsuc 249_998; e = 2; s = 62_500_500_001 });
     }
+    -- S above 2⁶⁴, and E near its limit
+    ∷ record {
+      list = below 0 511 ∷ below 2048 508 ∷ at 1 1536 ∷ [];
+      chosen = One (at 1 1536);
+      answer = given (disk 8_577_370_109 4_290_778_103 8_388_602 147_286_249_292_406_046_810);
+    }
     -- a lone point; two corners of a square
     ∷ record { list = at 7 7 ∷ []; chosen = One (at 7 7); answer = given (disk 7 7 1 0) }
     ∷ record { list = at 0 0 ∷ at 2 0 ∷ at 2 2 ∷ at 0 2 ∷ []; chosen = Two (at 0 0) (at 2 0); answer = given (disk 1 1 1 2) }
     -- "12 if a chosen corner, even one outside the em box, isn't in it", before 13; the engine's own before 12
     ∷ record { list = row; chosen = Two (at 2 0) (at 7 7); answer = refused 12 }
-    ∷ record { list = row; chosen = One (at 0 751); answer = refused 12 }
-    ∷ record { list = at 0 751 ∷ []; chosen = One (at 7 7); answer = refused 3 }
+    ∷ record { list = row; chosen = One (at 0 1537); answer = refused 12 }
+    ∷ record { list = at 0 1537 ∷ []; chosen = One (at 7 7); answer = refused 3 }
     ∷ record { list = []; chosen = One (at 7 7); answer = refused 5 }
     ∷ []
 

@@ -82,11 +82,14 @@ AllLoad (e ∷ es) = Loads (e .description) (e .answer) × AllLoad es
 
 abbrev pub edges : List Edge
 edges =
-    -- "x 1000 passes, 1001 gives 3; y −250 passes, −251 gives 3; 4,096 corners pass, 4,097 give 4; "12345 0" gives 2; a lone line feed gives 5"
-    edge "1000 0" (given 1)
-    ∷ edge "1001 0" (refused 3)
-    ∷ edge "0 -250" (given 1)
-    ∷ edge "0 -251" (refused 3)
+    -- "x 1000 passes, 1001 gives 3; y −250 passes, −251 gives 3; 4,096 corners pass, 4,097 give 4; "12345 0" gives 2; a lone line feed gives 5"; the
+    -- em box's edges by 02, item 10
+    edge "2048 0" (given 1)
+    ∷ edge "2049 0" (refused 3)
+    ∷ edge "0 -512" (given 1)
+    ∷ edge "0 -513" (refused 3)
+    ∷ edge "0 1536" (given 1)
+    ∷ edge "0 1537" (refused 3)
     ∷ lines 4096 "0 0\n" (given 4096)
     ∷ lines 4097 "0 0\n" (refused 4)
     ∷ edge "12345 0" (refused 2)
@@ -95,18 +98,18 @@ edges =
     ∷ edge "" (refused 5)
     ∷ edge " \n\n -0  0007 \n" (given 1)
     -- the first faulty line decides
-    ∷ edge "1 1\n1001 0\nx" (refused 3)
-    ∷ edge "1 1\nx\n1001 0" (refused 2)
+    ∷ edge "1 1\n2049 0\nx" (refused 3)
+    ∷ edge "1 1\nx\n2049 0" (refused 2)
     -- only byte 32 is a space, and a minus parts no numbers
     ∷ edge "1\t1" (refused 2)
     ∷ edge "1 1\r\n" (refused 2)
     ∷ edge "5-3" (refused 2)
     -- one plus or one minus before a number (02, item 1)
-    ∷ edge "+12 -7\n+0 -0\n+1000 +750" (given 3)
+    ∷ edge "+12 -7\n+0 -0\n+2048 +1536" (given 3)
     ∷ edge "+-1 0" (refused 2)
     ∷ edge "0 0\n++1 0" (refused 2)
-    ∷ edge "+1001 -+1" (refused 2)
-    ∷ edge "0 +751\n+" (refused 3)
+    ∷ edge "+2049 -+1" (refused 2)
+    ∷ edge "0 +1537\n+" (refused 3)
     ∷ []
 
 -- ---- numbers: "may begin with one plus or one minus, then 1 to 4 digits as before. "+0" is 0; "+-1" and "++1" are refused as 2" (02, item 1)

@@ -86,16 +86,16 @@ drawn x y n o = record { point = Drawn (float x) (float y); there = n; answer = 
 
 abbrev pub appends : List Append
 appends =
-    -- (1000, −250), in whole numbers and in floats; both zeros minus
-    whole (pos 1000) (negℤ (pos 250)) 0 (given 1)
-    ∷ drawn 0x408f_4000_0000_0000 0xc06f_4000_0000_0000 4095 (given 4096)
+    -- (2048, −512), in whole numbers and in floats; both zeros minus
+    whole (pos 2048) (negℤ (pos 512)) 0 (given 1)
+    ∷ drawn 0x40a0_0000_0000_0000 0xc080_0000_0000_0000 4095 (given 4096)
     ∷ drawn 0x8000_0000_0000_0000 0x8000_0000_0000_0000 7 (given 8)
     -- 4 when 4,096 or more are there
-    ∷ whole (pos 1000) (pos 750) 4096 (refused 4)
+    ∷ whole (pos 2048) (pos 1536) 4096 (refused 4)
     ∷ drawn 0 0 (2 ^ 64 - 1) (refused 4)
     -- 3 before 4
-    ∷ whole (pos 1001) (pos 0) 4096 (refused 3)
-    ∷ whole (pos 0) (negℤ (pos 251)) 0 (refused 3)
+    ∷ whole (pos 2049) (pos 0) 4096 (refused 3)
+    ∷ whole (pos 0) (negℤ (pos 513)) 0 (refused 3)
     ∷ drawn 0x7e37_e43c_8800_759c 0 4096 (refused 3)
     -- 11 before 3: (NaN, 5000), (5000, 0.5), (infinity, 0), (0, 5e−324)
     ∷ drawn 0x7ff8_0000_0000_0000 0x40b3_8800_0000_0000 0 (refused 11)

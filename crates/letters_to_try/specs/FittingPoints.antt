@@ -13,7 +13,7 @@ use Rattle.answers.specs.Outcome.{Outcome, given, refused}
 use Rattle.geometry.specs.declared.Point.{Point}
 use Rattle.geometry.specs.Plane.{Disk}
 use Rattle.disk_checks.specs.Checks.{checkOf}
-use Rattle.letters_to_try.specs.Letters.{at, disk}
+use Rattle.letters_to_try.specs.Letters.{at, below, disk}
 
 pub record Check : Type 0 where
   pub numbers : Disk
@@ -54,6 +54,9 @@ checks =
     -- opposite points, and another circle about their centre
     ∷ unfit (disk 2 0 1 5) (at 0 0 ∷ at 4 0 ∷ [])
     ∷ unfit (disk 2 0 1 4) (at 1 0 ∷ at 3 0 ∷ [])
+    -- S above 2⁶⁴: as it is, and cut to 64 bits
+    ∷ passes (disk 8_577_370_109 4_290_778_103 8_388_602 147_286_249_292_406_046_810) (below 0 511 ∷ at 1 1536 ∷ below 2048 508 ∷ [])
+    ∷ unfit (disk 8_577_370_109 4_290_778_103 8_388_602 18_159_040_776_439_185_498) (below 0 511 ∷ at 1 1536 ∷ below 2048 508 ∷ [])
     -- a single point, with a circle around it, one through it, and the point beside it
     ∷ unfit (disk 7 7 1 1) (at 7 7 ∷ [])
     ∷ unfit (disk 8 7 1 1) (at 7 7 ∷ [])
@@ -63,7 +66,7 @@ checks =
     ∷ faulty (disk 2 0 1 4) (at 4 0 ∷ at 0 0 ∷ [])
     ∷ faulty (disk 7 7 1 0) (at 7 7 ∷ at 7 7 ∷ [])
     ∷ faulty (disk 7 7 1 0) []
-    ∷ faulty (disk 12 5 6 169) (at 0 0 ∷ at 4 0 ∷ at 1001 0 ∷ [])
+    ∷ faulty (disk 12 5 6 169) (at 0 0 ∷ at 4 0 ∷ at 2049 0 ∷ [])
     ∷ []
 
 abbrev pub AllChecked : List Check → Type 0

@@ -71,7 +71,7 @@ reductions =
     -- "Refusals are the engine's.": 9, 5 and 3, and nothing is changed
     ∷ record { list = pos 1 ∷ pos 2 ∷ pos 3 ∷ []; answer = refused 9; left = pos 1 ∷ pos 2 ∷ pos 3 ∷ [] }
     ∷ record { list = []; answer = refused 5; left = [] }
-    ∷ record { list = pos 5 ∷ pos 5 ∷ pos 1001 ∷ pos 0 ∷ []; answer = refused 3; left = pos 5 ∷ pos 5 ∷ pos 1001 ∷ pos 0 ∷ [] }
+    ∷ record { list = pos 5 ∷ pos 5 ∷ pos 2049 ∷ pos 0 ∷ []; answer = refused 3; left = pos 5 ∷ pos 5 ∷ pos 2049 ∷ pos 0 ∷ [] }
     ∷ []
 
 abbrev pub AllAnswer : List Reduction → Type 0

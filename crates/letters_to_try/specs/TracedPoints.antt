@@ -30,7 +30,7 @@ traces =
     -- a square that decides alone
     ∷ record { list = pos 100 ∷ pos 50 ∷ pos 50 ∷ pos 110 ∷ pos 60 ∷ pos 1 ∷ []; answer = given (disk 100 50 1 5000) }
     -- squares that touch the em box's edges
-    ∷ record { list = pos 50 ∷ negsuc 199 ∷ pos 50 ∷ pos 950 ∷ pos 700 ∷ pos 50 ∷ []; answer = given (disk 500 250 1 500_000) }
+    ∷ record { list = pos 50 ∷ negsuc 461 ∷ pos 50 ∷ pos 1998 ∷ pos 1486 ∷ pos 50 ∷ []; answer = given (disk 1024 512 1 2_097_152) }
     -- "With every t zero the disk is the plain one.": letter F
     ∷ record { list = pos 0 ∷ pos 0 ∷ pos 0 ∷ pos 4 ∷ pos 0 ∷ pos 0 ∷ pos 2 ∷ pos 3 ∷ pos 0 ∷ []; answer = given (disk 12 5 6 169) }
     -- "The list goes by threes, x, y, t, any other length being 9", before the numbers are looked at; no traced point is 5
@@ -42,9 +42,9 @@ traces =
     ∷ record { list = pos 100 ∷ pos 50 ∷ negsuc 0 ∷ []; answer = refused 14 }
     -- "a square that leaves the em box is 3": to each side by one unit
     ∷ record { list = pos 49 ∷ pos 50 ∷ pos 50 ∷ []; answer = refused 3 }
-    ∷ record { list = pos 951 ∷ pos 50 ∷ pos 50 ∷ []; answer = refused 3 }
-    ∷ record { list = pos 100 ∷ negsuc 200 ∷ pos 50 ∷ []; answer = refused 3 }
-    ∷ record { list = pos 100 ∷ pos 701 ∷ pos 50 ∷ []; answer = refused 3 }
+    ∷ record { list = pos 1999 ∷ pos 50 ∷ pos 50 ∷ []; answer = refused 3 }
+    ∷ record { list = pos 100 ∷ negsuc 462 ∷ pos 50 ∷ []; answer = refused 3 }
+    ∷ record { list = pos 100 ∷ pos 1487 ∷ pos 50 ∷ []; answer = refused 3 }
     -- "14 .. before 3 for the same corner"; "then the first faulty corner decides"
     ∷ record { list = pos 0 ∷ pos 50 ∷ pos 51 ∷ []; answer = refused 14 }
     ∷ record { list = pos 0 ∷ pos 50 ∷ pos 1 ∷ pos 100 ∷ pos 50 ∷ pos 51 ∷ []; answer = refused 3 }
