@@ -71,7 +71,7 @@ class File:
 
 def unused(file, files, named):
     for number, before, path, names, alias in file.imports:
-        for name in re.split(r",\s*", names) if names else [alias or path.split("::")[-1]]:
+        for name in re.split(r",\s*(?:[^\s,]+ as )?", re.sub(r"^[^\s,]+ as ", "", names)) if names else [alias or path.split("::")[-1]]:
             if before != "pub " and not file.has(name):
                 yield number, f"{name} (imported)"
     for number, name, public, own in file.defined:

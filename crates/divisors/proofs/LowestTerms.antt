@@ -5,13 +5,12 @@
 --   coprime, lowest-reduced                            : a triple in lowest terms is reduced
 --   quot-exact                                         : each number is its quotient times the common divisor
 --   natAbs-quot                                        : the quotient's size is the size's quotient
---   lowest-pos                                         : for e ≥ 1 the third number in lowest terms is ≥ 1
 --
 -- Scaling, and that a reduced triple is the only one in its proportion: Reduced.antt.
 use mathlib.Core.Path.{_≡_, refl, sym, ap, _∙_, subst}
 use Prim.Native.Nat.{ℕ, zero, suc, _*_, _/_, _≤_, _<_, _∣_}
 use native.Mathlib.Nat.{dvd-trans, le-of-dvd, pos-of-dvd-of-pos, mul-dvd-mul-right, div-mul-cancel, eq-one-of-dvd-one, dvd-of-mul-dvd-mul-right, one-mul}
-use native.Mathlib.Nat.{zero-mul, not-suc-le-zero, zero-lt-suc}
+use native.Mathlib.Nat.{zero-mul}
 use lib.IntN.{ℤ, pos, negsuc, negℤ, natAbs, _*ℤ_}
 use lib.Signed.{quotZ}
 use Rattle.integers.proofs.Abs.{abs-neg}
@@ -69,10 +68,3 @@ pub lowest-reduced : (x y : ℤ) (e : ℕ) → 0 < e → Reduced (lowest x y e .
 lowest-reduced x y e h d p q r =
     let g = common x y e in
     coprime x y e d h (subst (λ (n : ℕ). d ∣ n) (natAbs-quot x g) p) (subst (λ (n : ℕ). d ∣ n) (natAbs-quot y g) q) r
-
-pub lowest-pos : (x y : ℤ) (e : ℕ) → 0 < e → 0 < lowest x y e .e
-lowest-pos x y e h = quotient-pos (e / common x y e) (subst (λ (n : ℕ). 0 < n) (sym (div-mul-cancel (common x y e) (divides-e x y e))) h)
-  where
-    quotient-pos : (q : ℕ) → 0 < q * common x y e → 0 < q
-    quotient-pos zero p = absurd (not-suc-le-zero (subst (λ (n : ℕ). 0 < n) (zero-mul (common x y e)) p))
-    quotient-pos (suc q) p = zero-lt-suc q

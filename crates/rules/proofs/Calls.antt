@@ -217,7 +217,7 @@ module _ {w : ℕ} {l : Limits} (fit : Wide w l) (bs : List ℕ) (long : length 
 
   module _ (form : Form) where
     -- in bytes that are a record stand its disk, its points and their count
-    stands : (r : IsRecord bs) → Read w bs (r .disk) (r .support) (length (r .support))
+    pub stands : (r : IsRecord bs) → Read w bs (r .disk) (r .support) (length (r .support))
     stands r =
         let (k, e) = form r in
         subst (λ (cs : List ℕ). Read w cs (r .disk) (r .support) (length (r .support))) (sym e)
@@ -259,7 +259,7 @@ module _ {w : ℕ} {l : Limits} (fit : Wide w l) (bs : List ℕ) (long : length 
         own k r = let s = stands r in subst (λ (c : Disk). Belong c ps) (sym (s .disk)) (subst (Belong (r .disk)) (sym (s .points)) (k r))
 
 -- a record is as long as its form says
-form-long : (w : ℕ) (l : Limits) (d : Disk) (ps : List Point) (bs : List ℕ) → RecordableIn l d ps → bs ≡ recordBy w d ps → length bs ≡ lengthBy w
+pub form-long : (w : ℕ) (l : Limits) (d : Disk) (ps : List Point) (bs : List ℕ) → RecordableIn l d ps → bs ≡ recordBy w d ps → length bs ≡ lengthBy w
 form-long w l d ps bs r e = ap length e ∙ recordBy-length w d ps (counted l ps (valid-points l d ps (recordable-valid l d ps r)))
 
 current-form : (bs : List ℕ) (long : length bs ≡ recordLength) → Form wide-em bs long
@@ -269,7 +269,7 @@ current-form bs long r = go (r .is-record)
     go (current k e) = (k, e)
     go (old k e) = absurd (true≢false (sym (eq-eqb recordLength oldRecordLength (sym long ∙ form-long oldSWidth oldEm (r .disk) (r .support) bs k e))))
 
-old-form : (bs : List ℕ) (long : length bs ≡ oldRecordLength) → Form wide-old bs long
+pub old-form : (bs : List ℕ) (long : length bs ≡ oldRecordLength) → Form wide-old bs long
 old-form bs long r = go (r .is-record)
   where
     go : IsRecordOf (r .disk) (r .support) bs → RecordableIn oldEm (r .disk) (r .support) × (bs ≡ oldRecordBytes (r .disk) (r .support))

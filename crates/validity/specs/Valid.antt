@@ -56,8 +56,5 @@ validIn l d ps = validDiskIn l d && validPointsIn l ps
 abbrev pub validDisk : Disk → Bool
 validDisk d = validDiskIn em d
 
-abbrev pub validPoints : List Point → Bool
-validPoints ps = validPointsIn em ps
-
 abbrev pub valid : Disk → List Point → Bool
 valid d ps = validIn em d ps

@@ -1,5 +1,5 @@
 -- `belonging::belongs` meets its contract: each case's tests say what the definition does (Known.antt).
-use mathlib.Core.Path.{_≡_, refl, sym, ap, subst, _∙_}
+use mathlib.Core.Path.{_≡_, sym, ap, subst, _∙_}
 use mathlib.Core.Bool.{true}
 use borrow.Author.Needs.{needs}
 use Rattle.integers.proofs.Tests.{stop, pass}
