@@ -38,5 +38,5 @@ pub record TracedPoints : Type 0 where
   pub plain :
       (l : List ℤ) → length l % 3 ≡ 0 → length (traced l) ≤ 1024 → ((s : TracedPoint) → List·Memᴰ s (traced l) → s .t ≡ pos 0)
       → tracedOf l ≡ andThen (encloseOf (flat (asRead (traced l)))) (λ e. given (e .disk))
-  -- document 01's limits of a disk hold: "E never exceeds 2,000,000, nor S/E² 500,000. The centre is in the em box."
+  -- document 01's limits of a disk hold, with the figures of item 10: "E never exceeds .., nor S/E² .. The centre is in the em box."
   pub limits : (l : List ℤ) (d : Disk) → tracedOf l ≡ given d → WithinLimits em d
