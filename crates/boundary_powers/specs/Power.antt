@@ -1,15 +1,18 @@
 -- The power of a point in a disk, and what it says of the boundary.
 --
 --   powerOf d p      == E|p|² − 2(Xx + Yy): the power of p in d, times E, but for a number that does not depend on p
---   OfBoundary d b   == where b says that it is known, its power is that of a point on d's boundary
+--   OfBoundary d k   == k is the power of a point on d's boundary
+--   SomeOn d l       == some point of the list l is on d's boundary
 use mathlib.Core.Bool.{true}
 use mathlib.Core.Path.{_≡_}
-use Prim.Native.Nat.{ℕ}
+use mathlib.Core.List.{List}
+use Prim.Native.Nat.{ℕ, _+_, _*_, _≤_}
 use lib.IntN.{ℤ, pos, _+ℤ_, _-ℤ_, _*ℤ_}
+use lib.ListN.{length}
 use Rattle.geometry.specs.declared.Point.{Point}
 use Rattle.geometry.specs.Plane.{Disk}
+use Rattle.geometry.specs.Points.{pointAt}
 use Rattle.support_tests.specs.Tests.{onBoundaryTest}
-use Rattle.boundary_powers.specs.declared.BoundaryPower.{BoundaryPower}
 
 unfoldable pub powerAlong : ℤ → ℕ → ℤ → ℤ
 powerAlong v e c = v *ℤ (v *ℤ pos e -ℤ pos 2 *ℤ c)
@@ -17,7 +20,12 @@ powerAlong v e c = v *ℤ (v *ℤ pos e -ℤ pos 2 *ℤ c)
 abbrev pub powerOf : Disk → Point → ℤ
 powerOf d p = powerAlong (p .x) (d .e) (d .x) +ℤ powerAlong (p .y) (d .e) (d .y)
 
-pub record OfBoundary (d : Disk) (b : BoundaryPower) : Type 0 where
+pub record OfBoundary (d : Disk) (k : ℤ) : Type 0 where
   pub point : Point
-  pub on : b .known ≡ true → onBoundaryTest d point ≡ true
-  pub power-is : b .power ≡ powerOf d point
+  pub on : onBoundaryTest d point ≡ true
+  pub power-is : k ≡ powerOf d point
+
+pub record SomeOn (d : Disk) (l : List ℤ) : Type 0 where
+  pub place : ℕ
+  pub there : 2 * place + 2 ≤ length l
+  pub on : onBoundaryTest d (pointAt l place) ≡ true

@@ -6,13 +6,7 @@ ghost use mathlib.Core.Path.{_≡_};
 ghost use Prim.Native.Nat.{_≤_};
 ghost use Rattle.geometry.specs.Plane.{numbers};
 ghost use Rattle.support_tests.specs.Tests.{onBoundaryTest, SmallPair, SmallDisk};
-ghost use Rattle.boundary_powers.specs.Power.{powerAlong, powerOf, OfBoundary};
-
-// The power of the boundary's points, if it is known.
-pub struct BoundaryPower {
-    pub known: bool,
-    pub power: i64,
-}
+ghost use Rattle.boundary_powers.specs.Power.{powerAlong, powerOf, OfBoundary, SomeOn};
 
 // v(v·e − 2c)
 fn power_along(v: i16, e: u64, c: i64) -> i64
@@ -33,24 +27,25 @@ fn power(disk: Disk, p: Point) -> i64
     a + b
 }
 
-// The power of the boundary's points, where q is one of them.
-pub fn shared_power(disk: Disk, q: Point) -> BoundaryPower
-    requires { ⌜ SmallDisk (numbers disk) ⌝ }
+// The power of the boundary's points, by the first of the list that is one.
+pub fn boundary_power(list: &[i16], disk: Disk) -> i64
+    requires { ⌜ SmallDisk (numbers disk) × SomeOn (numbers disk) (now list) ⌝ }
     ensures { λ r. ⌜ OfBoundary (numbers disk) r ⌝ }
 {
-    let known = support_tests::on_boundary(disk, q);
-    let power = power(disk, q);
-    BoundaryPower { known, power }
+    let n = list.len() / 2;
+    for i in 0..n {
+        let q = geometry::point_at(list, i);
+        if support_tests::on_boundary(disk, q) {
+            return power(disk, q);
+        }
+    }
+    0
 }
 
-// Whether p is on the disk's boundary (01: on the rim).
-pub fn on_boundary(disk: Disk, shared: BoundaryPower, p: Point) -> bool
-    requires { ⌜ SmallDisk (numbers disk) × (1 ≤ disk .e) × OfBoundary (numbers disk) shared ⌝ }
+// Whether p is on the boundary (01: on the rim), whose points have the power k.
+pub fn on_boundary(disk: Disk, k: i64, p: Point) -> bool
+    requires { ⌜ SmallDisk (numbers disk) × (1 ≤ disk .e) × OfBoundary (numbers disk) k ⌝ }
     ensures { λ r. ⌜ r ≡ onBoundaryTest (numbers disk) p ⌝ }
 {
-    if shared.known {
-        let k = shared.power;
-        return power(disk, p) == k;
-    }
-    support_tests::on_boundary(disk, p)
+    power(disk, p) == k
 }

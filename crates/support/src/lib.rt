@@ -1,5 +1,4 @@
 // The first support set of a list (01: the first rim set): a search through the points on the boundary of the smallest disk.
-use boundary_powers::BoundaryPower;
 use geometry::Disk;
 use geometry::SupportSet;
 use support_span::Span;
@@ -15,8 +14,8 @@ ghost use Rattle.support.specs.Asked.{Asked};
 
 // Writes points of the list on the disk's boundary to `out`, rising and each once, and returns how many there are: those among which the
 // search finds the first support set. The procedure leaves the points that fix the disk in front, so that two that do span much early.
-fn collect(list: &[i16], disk: Disk, shared: BoundaryPower, out: &mut [i16]) -> usize
-    requires { ⌜ Asked (now list) (numbers disk) × (length (now list) ≤ length (now out)) × OfBoundary (numbers disk) shared ⌝ }
+fn collect(list: &[i16], disk: Disk, power: i64, out: &mut [i16]) -> usize
+    requires { ⌜ Asked (now list) (numbers disk) × (length (now list) ≤ length (now out)) × OfBoundary (numbers disk) power ⌝ }
     ensures room { λ r. ⌜ 2 * r ≤ length (now (out .exit)) ⌝ }
     ensures left { λ r. ⌜ firstFit (numbers disk) (firstPoints r (now (out .exit))) ≡ firstSupport (points (now (list .entry))) ⌝ }
 {
@@ -27,7 +26,7 @@ fn collect(list: &[i16], disk: Disk, shared: BoundaryPower, out: &mut [i16]) -> 
     while i < n {
         let p = geometry::point_at(list, i);
         i += 1;
-        if !support_span::is_spanned(span, p.x) && boundary_powers::on_boundary(disk, shared, p) {
+        if !support_span::is_spanned(span, p.x) && boundary_powers::on_boundary(disk, power, p) {
             let size = rising_lists::insert_point(out, m, p);
             if m < size {
                 span = support_span::span_with(out, size, disk, p, span);
@@ -38,13 +37,13 @@ fn collect(list: &[i16], disk: Disk, shared: BoundaryPower, out: &mut [i16]) -> 
     m
 }
 
-// The search, with room lent for the boundary points. The procedure leaves a point of the boundary in front.
+// The search, with room lent for the boundary points. The procedure leaves one of them in front.
 fn search_in(list: &[i16], disk: Disk, room: &mut [i16]) -> SupportSet
     requires { ⌜ Asked (now list) (numbers disk) × (length (now list) ≤ length (now room)) ⌝ }
     ensures { λ r. ⌜ members r ≡ firstSupport (points (now (list .entry))) ⌝ }
 {
-    let shared = boundary_powers::shared_power(disk, geometry::point_at(list, 0));
-    let n = collect(list, disk, shared, room);
+    let power = boundary_powers::boundary_power(list, disk);
+    let n = collect(list, disk, power, room);
     support_search::search(room, n, disk)
 }
 

@@ -24,6 +24,7 @@ use Rattle.point_lists.specs.Sets.{In}
 use Rattle.point_lists.specs.Rising.{insert}
 use Rattle.point_lists.proofs.Rising.{insert-new, insert-length}
 use Rattle.support_tests.proofs.Numbers.{limits-small}
+use Rattle.boundary_powers.specs.Power.{OfBoundary}
 use Rattle.support_span.specs.Span.{Spanned, Spans}
 use Rattle.support_span.proofs.Spans.{spanned-more}
 use Rattle.geometry.specs.Plane.{numbers}
@@ -33,12 +34,12 @@ use Rattle.support.proofs.collect.Statement.{statement}
 use Rattle.support.proofs.collect.Tie as tie
 
 abbrev Inv-loop : tie.InvT-loop
-Inv-loop list disk shared out₀ m₀ span₀ n i₀ out m span i =
+Inv-loop list disk power out₀ m₀ span₀ n i₀ out m span i =
     (i ≤ length list / 2) × (m ≤ i) × (length out ≡ length out₀) × Kept (numbers disk) (firstPoints i list) (firstPoints m out)
     × Spans (numbers disk) (firstPoints m out) span
 
 abbrev μ-loop : tie.MeasureT-loop
-μ-loop list disk shared out₀ m₀ span₀ n i₀ out m span i = length list / 2 - i
+μ-loop list disk power out₀ m₀ span₀ n i₀ out m span i = length list / 2 - i
 
 in-limits : (s : tie.Start Inv-loop μ-loop) → WithinLimits em (numbers (s .args .disk))
 in-limits s = within-limits (points (s .args .list .now)) (points-some (s .args .list .now) (s .pre .0 .some)) (numbers (s .args .disk)) (s .pre .0 .smallest)
@@ -87,7 +88,7 @@ on-boundary-requires c κs =
     let d = numbers (st .args .disk) in (
       limits-small d (in-limits st),
       e-some (points (st .args .list .now)) (points-some (st .args .list .now) (st .pre .0 .some)) d (st .pre .0 .smallest),
-      st .pre .2,
+      subst (OfBoundary d) (sym (toZ-ofZ (st .fits .power))) (st .pre .2),
     )
 
 insert-point-requires : tie.Need-insert-point-requires Inv-loop μ-loop
