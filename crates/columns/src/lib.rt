@@ -68,7 +68,8 @@ fn put_column(
     highs: &mut [i16],
     m: usize,
 ) -> usize
-    requires { ⌜ (x < columnCount) × (m ≤ x) × (length (now low) ≡ columnCount) × (length (now high) ≡ columnCount) × Written x m (now low) (now high) (now lows) (now highs) ⌝ }
+    requires { ⌜ (x < columnCount) × (m ≤ x) × (length (now low) ≡ columnCount) × (length (now high) ≡ columnCount)
+        × Written x m (now low) (now high) (now lows) (now highs) ⌝ }
     ensures { λ r. ⌜ (r ≤ x + 1) × Written (x + 1) r (now (low .entry)) (now (high .entry)) (now (lows .exit)) (now (highs .exit)) ⌝ }
 {
     let lo = low[x];

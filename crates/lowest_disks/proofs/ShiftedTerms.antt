@@ -66,9 +66,11 @@ module _ (e : ℕ) (qx qy gx gy : ℤ) where
   common-shifted =
       let h = common x y e in
       let g = common gx gy e in
+      let h-e = divides-e x y e in
+      let g-e = divides-e gx gy e in
       dvd-antisymm
-      (common-greatest gx gy e h (divides-back h e qx gx (divides-e x y e) (divides-x x y e)) (divides-back h e qy gy (divides-e x y e) (divides-y x y e)) (divides-e x y e))
-      (common-greatest x y e g (divides-shifted g e qx gx (divides-e gx gy e) (divides-x gx gy e)) (divides-shifted g e qy gy (divides-e gx gy e) (divides-y gx gy e)) (divides-e gx gy e))
+      (common-greatest gx gy e h (divides-back h e qx gx h-e (divides-x x y e)) (divides-back h e qy gy h-e (divides-y x y e)) h-e)
+      (common-greatest x y e g (divides-shifted g e qx gx g-e (divides-x gx gy e)) (divides-shifted g e qy gy g-e (divides-y gx gy e)) g-e)
 
 -- ---- the square
 
@@ -106,4 +108,9 @@ module _ (e : ℕ) (qx qy gx gy : ℤ) (some : 0 < e) where
       ∙ ap by-divisor (sym (common-shifted e qx qy gx gy))
     where
       by-divisor : ℕ → Disk
-      by-divisor k = record { x = quotZ (qx *ℤ pos e +ℤ gx) (pos k); y = quotZ (qy *ℤ pos e +ℤ gy) (pos k); e = e / k; s = natAbs (gx *ℤ gx +ℤ gy *ℤ gy) / (k * k) }
+      by-divisor k = record {
+        x = quotZ (qx *ℤ pos e +ℤ gx) (pos k);
+        y = quotZ (qy *ℤ pos e +ℤ gy) (pos k);
+        e = e / k;
+        s = natAbs (gx *ℤ gx +ℤ gy *ℤ gy) / (k * k);
+      }

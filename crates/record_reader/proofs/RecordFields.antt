@@ -157,13 +157,15 @@ point-read p at bs s x y = λ i. record {
   y = (ap (back coordinateWidth) y ∙ back-twos coordinateWidth (p .y) (s .y-small)) i;
 }
 
-pub fields-read : {w : ℕ} {l : Limits} (fit : Wide w l) (d : Disk) → DiskBounds l d → (a b c : Point) → TwoBytes a → TwoBytes b → TwoBytes c → (n : ℕ) → n < 256
+pub fields-read : {w : ℕ} {l : Limits} (fit : Wide w l) (d : Disk) → DiskBounds l d
+    → (a b c : Point) → TwoBytes a → TwoBytes b → TwoBytes c → (n : ℕ) → n < 256
     → ReadsAs w (diskBytes w d ++ pointsBytes (a ∷ b ∷ c ∷ []) ++ bytesOf countWidth n) d a b c n
 fields-read {w} fit d k a b c f g h n few =
     let bs = joined (fields w d a b c n) in
     let r = joined-read [] (fields w d a b c n) (fields-fit fit d k a b c f g h n few) in
     let q = r .1 .1 .1 .1 in
     let f-at = firstAt w in
+    let at = q .1 .1 in
     subst (λ (xs : List ℕ). ReadsAs w xs d a b c n) (sym (record-joined w d a b c n))
     (record {
       disk = λ i. record {
@@ -173,9 +175,10 @@ fields-read {w} fit d k a b c f g h n few =
         s = r .1 .1 .1 .0 i;
       };
       first = point-read a (firstAt w) bs f (q .0) (q .1 .0);
-      second = point-read b (secondAt w) bs g (moved coordinateWidth bs (at-second f-at) (q .1 .1 .0)) (moved coordinateWidth bs (in-second f-at) (q .1 .1 .1 .0));
-      third = point-read c (thirdAt w) bs h (moved coordinateWidth bs (at-third f-at) (q .1 .1 .1 .1 .0)) (moved coordinateWidth bs (in-third f-at) (q .1 .1 .1 .1 .1 .0));
-      count = moved countWidth bs (at-count f-at) (q .1 .1 .1 .1 .1 .1 .0);
+      second = point-read b (secondAt w) bs g (moved coordinateWidth bs (at-second f-at) (at .0)) (moved coordinateWidth bs (in-second f-at) (at .1 .0));
+      third =
+          point-read c (thirdAt w) bs h (moved coordinateWidth bs (at-third f-at) (at .1 .1 .0)) (moved coordinateWidth bs (in-third f-at) (at .1 .1 .1 .0));
+      count = moved countWidth bs (at-count f-at) (at .1 .1 .1 .1 .0);
     })
 
 -- ---- the fields of any bytes of a record's length, joined again
@@ -188,7 +191,10 @@ module _ (bs : List ℕ) (bytes : (k : ℕ) → getD bs k 0 < 256) where
   coordinate-again at = sym (twos-back coordinateWidth (get coordinateWidth 0 at bs) (get-lt bs bytes coordinateWidth at))
 
   pub fields-again : (w : ℕ) → length bs ≡ lengthBy w
-      → diskBytes w (diskIn w bs) ++ pointsBytes (pointIn (firstAt w) bs ∷ pointIn (secondAt w) bs ∷ pointIn (thirdAt w) bs ∷ []) ++ bytesOf countWidth (countIn w bs) ≡ bs
+      → diskBytes w (diskIn w bs)
+      ++ pointsBytes (pointIn (firstAt w) bs ∷ pointIn (secondAt w) bs ∷ pointIn (thirdAt w) bs ∷ [])
+      ++ bytesOf countWidth (countIn w bs)
+      ≡ bs
   fields-again w e =
       let a = pointIn (firstAt w) bs in
       let b = pointIn (secondAt w) bs in

@@ -21,7 +21,8 @@ use Rattle.geometry.specs.Plane.{Disk}
 use Rattle.geometry.proofs.EmBox.{all-in, in-all}
 use Rattle.validity.specs.Narrow.{Narrower}
 use Rattle.validity.specs.Valid.{validIn}
-use Rattle.validity.proofs.ValidLaws.{limits, valid-disk, valid-points, counted, rises, boxed, valid-lowest, valid-within, disk-valid, points-valid, both-valid}
+use Rattle.validity.proofs.ValidLaws.{limits, valid-disk, valid-points, counted, rises, boxed}
+use Rattle.validity.proofs.ValidLaws.{valid-lowest, valid-within, disk-valid, points-valid, both-valid}
 
 scaled : (a b : ℤ) (e : ℕ) → a ≼ b → a *ℤ pos e ≼ b *ℤ pos e
 scaled a b e h = nonneg (a ∷ b ∷ pos e ∷ []) (le h ⊠ nn e) (search poly depth 30) tt

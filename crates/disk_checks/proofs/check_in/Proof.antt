@@ -31,7 +31,8 @@ returns-3 : tie.Need-returns-3
 returns-3 c =
     let b = c .before in
     let s = b .before .before .before in
-    sym (passes-in (s .args .l) (numbers (s .args .d)) (members (s .args .t)) (fine (b .before)) (sym (b .belongs .ensures) ∙ not-false (b .belongs .result) (c .if2 .left)))
+    let belong = sym (b .belongs .ensures) ∙ not-false (b .belongs .result) (c .if2 .left) in
+    sym (passes-in (s .args .l) (numbers (s .args .d)) (members (s .args .t)) (fine (b .before)) belong)
 
 pub check-in-spec : {M : Type 1} → statement M
 check-in-spec = tie.close (tie.spec is-valid-in-requires returns belongs-requires returns-2 returns-3)

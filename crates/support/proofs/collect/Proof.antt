@@ -66,7 +66,8 @@ module _ (c : tie.After-point-at Inv-loop μ-loop) where
   read = firstPoints-next (at .loop .i) (s .args .list .now) (omega (arith, c .before .loop-test .taken))
       ∙ ap (λ (q : Point). P ++ (q ∷ [])) (sym (c .point-at .ensures))
 
-  now-kept : (R : List Point) → Kept (numbers (s .args .disk)) (P ++ (p ∷ [])) R → Kept (numbers (s .args .disk)) (firstPoints (at .loop .i + 1) (s .args .list .now)) R
+  now-kept : (R : List Point) → Kept (numbers (s .args .disk)) (P ++ (p ∷ [])) R
+      → Kept (numbers (s .args .disk)) (firstPoints (at .loop .i + 1) (s .args .list .now)) R
   now-kept R k = subst (λ (L : List Point). Kept (numbers (s .args .disk)) L R) (sym read) k
 
 loop-holds : tie.Need-loop-holds Inv-loop μ-loop
@@ -164,7 +165,8 @@ loop-again-2 c =
     )
 
 -- the point is spanned, as the test said
-spanned : (c : tie.After-is-spanned Inv-loop μ-loop) → c .is-spanned .result ≡ true → let e = c .before .before in Spanned (numbers (s e .args .disk)) (Q e) (p e .x)
+spanned : (c : tie.After-is-spanned Inv-loop μ-loop) → c .is-spanned .result ≡ true
+    → let e = c .before .before in Spanned (numbers (s e .args .disk)) (Q e) (p e .x)
 spanned c t =
     let e = c .before .before in
     let lo = at e .loop .span .lo in

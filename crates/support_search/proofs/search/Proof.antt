@@ -20,7 +20,8 @@ use Rattle.support_search.proofs.search.Statement.{statement}
 use Rattle.support_search.proofs.search.Tie as tie
 
 abbrev Inv-loop2 : tie.InvT-loop2
-Inv-loop2 list n disk found₀ i p j₀ found j = (j ≤ n) × (pairsWith (fits (numbers disk)) (firstPoints n list) p i j ≡ firstFit (numbers disk) (firstPoints n list))
+Inv-loop2 list n disk found₀ i p j₀ found j =
+    (j ≤ n) × (pairsWith (fits (numbers disk)) (firstPoints n list) p i j ≡ firstFit (numbers disk) (firstPoints n list))
 
 abbrev μ-loop2 : tie.MeasureT-loop2
 μ-loop2 list n disk found₀ i p j₀ found j = n - j
