@@ -1,26 +1,30 @@
 -- The points that `collect` keeps: boundary points with a spanned x can be left out.
 --
 --   Kept d P Q          == Q rises, its points are points of P on d's boundary, and the others of these are spanned by points of Q
---   kept-none, kept-put, kept-spanned, kept-off : at the start, with a point put in, and with one left out
+--   kept-none, kept-put : at the start, and with a point put in
+--   kept-passed         : with points passed by, none of which is needed
 --   kept-finds          : the first set of Q that passes its test is the first support set of P
 use mathlib.Core.Path.{_≡_, sym, _∙_, ap, subst}
 use mathlib.Core.Logic.{_⊎_, inl, inr}
-use mathlib.Core.Bool.{true, false}
+use mathlib.Core.Bool.{Bool, true, false, not, _&&_}
 use mathlib.Core.List.{List, [], _∷_, _++_, List·Memᴰ·head, List·Memᴰ·cases-cons, List·Memᴰ·not-nil, List·Memᴰ·eq-of-singleton}
 use mathlib.Core.List.{List·Memᴰ·append-cases, Memᴰ·append-left, Memᴰ·append-right}
-use Prim.Native.Nat.{_≤_}
+use Prim.Native.Nat.{ℕ, zero, suc, _+_, _*_, _≤_, _<_}
+use native.Mathlib.Nat.{add-zero}
 use native.Mathlib.Omega.{arith}
 use lib.Dec.{T, eqb→eq}
 use lib.IntN.{ℤ, pos, negsuc, _+ℤ_, _-ℤ_, _*ℤ_}
 use lib.ListN.{length}
-use lib.Signed.{_<ℤ_, _≤ℤ_}
-use Rattle.integers.proofs.Tests.{and-left}
+use lib.Signed.{ltZ, _<ℤ_, _≤ℤ_}
+use Rattle.integers.proofs.Tests.{and-left, and-right}
 use Rattle.integers.proofs.Order.{eqZ-eq, ≤-of-eq, ≤-of-<, <-≤-clash, <-trans, ≡-cancel, sum-squares-zero, nonneg, le, eq, _⊞_}
 use Rattle.integers.proofs.Laws.{eq-of-sub}
 use Rattle.integers.proofs.Ring.{poly, linear, eqn, _&_}
 use Rattle.geometry.specs.declared.Point.{Point}
 use Rattle.geometry.specs.Plane.{Disk, distance}
 use Rattle.geometry.specs.Order.{before}
+use Rattle.geometry.specs.Points.{pointAt, firstPoints}
+use Rattle.geometry.proofs.PointLists.{firstPoints-next}
 use Rattle.point_lists.specs.Sets.{In}
 use Rattle.point_lists.specs.Rising.{insert, sorted, Rising}
 use Rattle.point_lists.proofs.Sets.{none-of, also}
@@ -35,8 +39,10 @@ use Rattle.disks.proofs.Choose.{Among}
 use Rattle.disks.proofs.First.{Passes, first-passes, Candidate, candidate, a-candidate, candidates-earlier, earlier-asym}
 use Rattle.support_tests.specs.Tests.{onBoundaryTest, midway, opposite, fits}
 use Rattle.support_search.specs.Search.{firstFit}
-use Rattle.support_span.specs.Span.{Spanned}
+use Rattle.support_span.specs.declared.Span.{Span}
+use Rattle.support_span.specs.Span.{Spanned, Spans}
 use Rattle.support_span.proofs.Spans.{spanned-more}
+use Rattle.support.specs.Needed.{needed}
 use Rattle.support.proofs.Boundary.{boundaryOf, boundary-in, in-boundary}
 use Rattle.support.proofs.SearchFinds.{search-finds, search-passes, e-some}
 
@@ -83,11 +89,30 @@ module _ (d : Disk) (P Q : List Point) (p : Point) (k : Kept d P Q) where
           let e : x ≡ p = List·Memᴰ·eq-of-singleton i in
           inr (subst (λ (y : Point). Spanned d Q (y .x)) (sym e) (f (subst (λ (y : Point). T (onBoundaryTest d y)) e t)))
 
-  pub kept-spanned : Spanned d Q (p .x) → Kept d (P ++ (p ∷ [])) Q
-  kept-spanned s = left-out (λ t. s)
+-- ---- points passed by
 
-  pub kept-off : onBoundaryTest d p ≡ false → Kept d (P ++ (p ∷ [])) Q
-  kept-off off = left-out (λ t. absurd (subst T off t))
+unless : (a b : Bool) → not a && b ≡ false → T b → T a
+unless true b h t = tt
+unless false b h t = subst T h t
+
+module _ (d : Disk) (s : Span) (Q : List Point) (spans : Spans d Q s) where
+  not-needed : (p : Point) → needed d s p ≡ false → T (onBoundaryTest d p) → Spanned d Q (p .x)
+  not-needed p h t =
+      let left = ltZ (s .lo) (p .x) in
+      let right = ltZ (p .x) (s .hi) in
+      let w = unless (left && right) (onBoundaryTest d p) h t in
+      spans (p .x) (record { lt = and-left left right w }) (record { lt = and-right left right w })
+
+  pub kept-passed : (l : List ℤ) (i n : ℕ) → 2 * (i + n) ≤ length l → ((j : ℕ) → i ≤ j → j < i + n → needed d s (pointAt l j) ≡ false)
+      → Kept d (firstPoints i l) Q → Kept d (firstPoints (i + n) l) Q
+  kept-passed l i zero room passed k = rw (add-zero i) k
+  kept-passed l i (suc n) room passed k =
+      let one-more : i + n + 1 ≡ i + suc n = omega arith in
+      let p = pointAt l (i + n) in
+      let P = firstPoints (i + n) l in
+      let before = kept-passed l i n (omega arith) (λ j a b. passed j a (omega arith)) k in
+      let now = left-out d P Q p before (not-needed p (passed (i + n) (omega arith) (omega arith))) in
+      subst (λ (m : ℕ). Kept d (firstPoints m l) Q) one-more (subst (λ (L : List Point). Kept d L Q) (sym (firstPoints-next (i + n) l (omega arith))) now)
 
 -- ---- opposite points
 

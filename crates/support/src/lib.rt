@@ -3,14 +3,34 @@ use geometry::Disk;
 use geometry::SupportSet;
 use support_span::Span;
 ghost use mathlib.Core.Path.{_≡_};
-ghost use Prim.Native.Nat.{_*_, _≤_};
+ghost use Prim.Native.Nat.{_*_, _/_, _≤_};
 ghost use lib.ListN.{length};
 ghost use Rattle.geometry.specs.Plane.{members, numbers};
 ghost use Rattle.geometry.specs.Points.{points, firstPoints};
 ghost use Rattle.disks.specs.Support.{firstSupport};
 ghost use Rattle.support_search.specs.Search.{firstFit};
+ghost use Rattle.support_tests.specs.Tests.{SmallDisk};
 ghost use Rattle.boundary_powers.specs.Power.{OfBoundary};
 ghost use Rattle.support.specs.Asked.{Asked};
+ghost use Rattle.support.specs.Needed.{NextNeeded};
+
+// The first place from i on whose point the search needs, or the end of the list where there is none. Most points are passed by, so that the loop
+// over them has nothing else in it.
+fn next_needed(list: &[i16], i: usize, disk: Disk, power: i64, span: Span) -> usize
+    requires { ⌜ (i ≤ length (now list) / 2) × SmallDisk (numbers disk) × (1 ≤ disk .e) × OfBoundary (numbers disk) power ⌝ }
+    ensures { λ r. ⌜ NextNeeded (numbers disk) span (now (list .entry)) i r ⌝ }
+{
+    let n = list.len() / 2;
+    let mut k = i;
+    while k < n {
+        let p = geometry::point_at(list, k);
+        if !support_span::is_spanned(span, p.x) && boundary_powers::on_boundary(disk, power, p) {
+            return k;
+        }
+        k += 1;
+    }
+    n
+}
 
 // Writes points of the list on the disk's boundary to `out`, rising and each once, and returns how many there are: those among which the
 // search finds the first support set. The procedure leaves the points that fix the disk in front, so that two that do span much early.
@@ -23,18 +43,19 @@ fn collect(list: &[i16], disk: Disk, power: i64, out: &mut [i16]) -> usize
     let mut span = Span { lo: 0, hi: 0 };
     let n = list.len() / 2;
     let mut i: usize = 0;
-    while i < n {
+    loop {
+        i = next_needed(list, i, disk, power, span);
+        if n <= i {
+            return m;
+        }
         let p = geometry::point_at(list, i);
-        i += 1;
-        if !support_span::is_spanned(span, p.x) && boundary_powers::on_boundary(disk, power, p) {
-            let size = rising_lists::insert_point(out, m, p);
-            if m < size {
-                span = support_span::span_with(out, size, disk, p, span);
-            }
+        let size = rising_lists::insert_point(out, m, p);
+        if m < size {
+            span = support_span::span_with(out, size, disk, p, span);
             m = size;
         }
+        i += 1;
     }
-    m
 }
 
 // The search, with room lent for the boundary points. The procedure leaves one of them in front.

@@ -1,35 +1,32 @@
 -- `support::collect` meets its contract. The invariant: of the first i points of the list, the first m of `out` are kept.
 use mathlib.Core.Path.{_≡_, refl, sym, ap, subst, _∙_}
 use mathlib.Core.Logic.{inl, inr}
-use mathlib.Core.Bool.{true, _&&_}
+use mathlib.Core.Bool.{true, not}
 use mathlib.Core.List.{List, [], _∷_, _++_}
-use Prim.Native.Nat.{_+_, _-_, _/_, _≤_}
+use Prim.Native.Nat.{ℕ, _+_, _-_, _/_, _≤_, _<_}
 use native.Mathlib.Omega.{arith}
-use borrow.Author.Needs.{needs}
-use borrow.Author.Tests.{not-false}
-use lib.Dec.{T}
+use lib.IntN.{ℤ}
 use lib.ListN.{length}
-use lib.Signed.{ltZ}
-use mir.Syntax.{w16}
-use mir.Val.{toZ, ofZ}
 use mir.Facts.{toZ-ofZ}
-use Rattle.integers.proofs.Tests.{and-left, and-right}
+use Rattle.integers.proofs.Tests.{rest}
 use Rattle.integers.proofs.Order.{<-≤-clash, ≤-of-<}
 use Rattle.geometry.specs.declared.Point.{Point}
-use Rattle.geometry.specs.Points.{points, firstPoints}
+use Rattle.geometry.specs.Plane.{Disk, numbers}
+use Rattle.geometry.specs.Points.{points, firstPoints, pointAt}
 use Rattle.geometry.specs.EmBox.{em, WithinLimits}
 use Rattle.geometry.proofs.PointLists.{length-firstPoints, firstPoints-next, firstPoints-whole}
 use Rattle.geometry.proofs.PointRows.{points-some}
 use Rattle.point_lists.specs.Sets.{In}
 use Rattle.point_lists.specs.Rising.{insert}
-use Rattle.point_lists.proofs.Rising.{insert-new, insert-length}
+use Rattle.point_lists.proofs.Rising.{insert-new, insert-old, insert-rises, insert-length, fewer-or-same}
+use Rattle.support_tests.specs.Tests.{onBoundaryTest}
 use Rattle.support_tests.proofs.Numbers.{limits-small}
 use Rattle.boundary_powers.specs.Power.{OfBoundary}
-use Rattle.support_span.specs.Span.{Spanned, Spans}
+use Rattle.support_span.specs.declared.Span.{Span}
+use Rattle.support_span.specs.Span.{Spanned, Spans, strictlyWithin}
 use Rattle.support_span.proofs.Spans.{spanned-more}
-use Rattle.geometry.specs.Plane.{numbers}
 use Rattle.support.proofs.SearchFinds.{e-some, within-limits}
-use Rattle.support.proofs.Kept.{Kept, kept-none, kept-put, kept-spanned, kept-off, kept-finds}
+use Rattle.support.proofs.Kept.{Kept, kept-none, kept-put, kept-passed, kept-finds}
 use Rattle.support.proofs.collect.Statement.{statement}
 use Rattle.support.proofs.collect.Tie as tie
 
@@ -45,166 +42,168 @@ in-limits : (s : tie.Start Inv-loop μ-loop) → WithinLimits em (numbers (s .ar
 in-limits s = within-limits (points (s .args .list .now)) (points-some (s .args .list .now) (s .pre .0 .some)) (numbers (s .args .disk)) (s .pre .0 .smallest)
     (s .pre .0 .boxed)
 
--- the point that was read, behind those that were looked at
-module _ (c : tie.After-point-at Inv-loop μ-loop) where
+-- the points up to the next that is needed
+module _ (c : tie.After-next-needed Inv-loop μ-loop) where
   abbrev at : tie.At-loop Inv-loop μ-loop
-  at = c .before .before
+  at = c .before
 
   abbrev s : tie.Start Inv-loop μ-loop
   s = at .before
 
-  abbrev p : Point
-  p = c .point-at .result
+  abbrev d : Disk
+  d = numbers (s .args .disk)
 
-  abbrev P : List Point
-  P = firstPoints (at .loop .i) (s .args .list .now)
+  abbrev l : List ℤ
+  l = s .args .list .now
+
+  abbrev i : ℕ
+  i = c .next-needed .result
 
   abbrev Q : List Point
   Q = firstPoints (at .loop .m) (at .loop .out)
 
-  read : firstPoints (at .loop .i + 1) (s .args .list .now) ≡ P ++ (p ∷ [])
-  read = firstPoints-next (at .loop .i) (s .args .list .now) (omega (arith, c .before .loop-test .taken))
-      ∙ ap (λ (q : Point). P ++ (q ∷ [])) (sym (c .point-at .ensures))
+  size-Q : length Q ≡ at .loop .m
+  size-Q = length-firstPoints (at .loop .m) (at .loop .out) (omega (arith, at .loop .inv .0, at .loop .inv .1, at .loop .inv .2, s .pre .1))
 
-  now-kept : (R : List Point) → Kept (numbers (s .args .disk)) (P ++ (p ∷ [])) R
-      → Kept (numbers (s .args .disk)) (firstPoints (at .loop .i + 1) (s .args .list .now)) R
-  now-kept R k = subst (λ (L : List Point). Kept (numbers (s .args .disk)) L R) (sym read) k
+  passed : Kept d (firstPoints i l) Q
+  passed =
+      let j = at .loop .i in
+      let there : j + (i - j) ≡ i = omega (arith, c .next-needed .ensures .from) in
+      subst (λ (k : ℕ). Kept d (firstPoints k l) Q) there
+      (kept-passed d (at .loop .span) Q (at .loop .inv .4) l j (i - j) (omega (arith, there, c .next-needed .ensures .most))
+      (λ k a b. c .next-needed .ensures .passed k a (omega (arith, there))) (at .loop .inv .3))
+
+-- that point, and those in front of it
+module _ (c : tie.After-point-at Inv-loop μ-loop) where
+  abbrev k : tie.After-next-needed Inv-loop μ-loop
+  k = c .before .before
+
+  abbrev p : Point
+  p = c .point-at .result
+
+  within : i k < length (l k) / 2
+  within = omega (arith, c .before .if1 .left)
+
+  read : firstPoints (i k + 1) (l k) ≡ firstPoints (i k) (l k) ++ (p ∷ [])
+  read =
+      firstPoints-next (i k) (l k) (omega (arith, within))
+      ∙ ap (λ (q : Point). firstPoints (i k) (l k) ++ (q ∷ [])) (sym (c .point-at .ensures))
+
+  on : onBoundaryTest (d k) p ≡ true
+  on =
+      let q = pointAt (l k) (i k) in
+      ap (onBoundaryTest (d k)) (c .point-at .ensures)
+      ∙ rest (not (strictlyWithin (at k .loop .span) (q .x))) (onBoundaryTest (d k) q) (k .next-needed .ensures .found within)
 
 loop-holds : tie.Need-loop-holds Inv-loop μ-loop
 unfolding points
 loop-holds c = (omega arith, omega arith, refl, kept-none (numbers (c .args .disk)), λ z h k. <-≤-clash h (≤-of-< k))
 
-point-at-requires : tie.Need-point-at-requires Inv-loop μ-loop
-point-at-requires c κs = omega (arith, c .loop-test .taken)
-
-add-i : tie.Need-add-i Inv-loop μ-loop
-add-i c = omega (arith, c .before .loop-test .taken, s c .pre .0 .most)
-
-is-spanned-requires : tie.Need-is-spanned-requires Inv-loop μ-loop
-is-spanned-requires c κs = search needs
-
-on-boundary-requires : tie.Need-on-boundary-requires Inv-loop μ-loop
-on-boundary-requires c κs =
-    let st = s (c .before .before .before) in
+next-needed-requires : tie.Need-next-needed-requires Inv-loop μ-loop
+next-needed-requires c κs =
+    let st = c .before in
     let d = numbers (st .args .disk) in (
+      c .loop .inv .0,
       limits-small d (in-limits st),
       e-some (points (st .args .list .now)) (points-some (st .args .list .now) (st .pre .0 .some)) d (st .pre .0 .smallest),
       subst (OfBoundary d) (sym (toZ-ofZ (st .fits .power))) (st .pre .2),
     )
 
+same-length : tie.Need-same-length Inv-loop μ-loop
+same-length c = at (c .before) .loop .inv .2
+
+returns : tie.Need-returns Inv-loop μ-loop
+returns c =
+    let k = c .before in
+    let lp = at k .loop in
+    let whole : firstPoints (i k) (l k) ≡ points (l k) = firstPoints-whole (i k) (l k)
+    (omega (arith, k .next-needed .ensures .most)) (omega (arith, c .if1 .taken)) in (
+      omega (arith, lp .inv .0, lp .inv .1, lp .inv .2, s k .pre .1),
+      kept-finds (points (l k)) (points-some (l k) (s k .pre .0 .some)) (d k) (s k .pre .0 .smallest) (Q k)
+          (subst (λ (P : List Point). Kept (d k) P (Q k)) whole (passed k)),
+    )
+
+point-at-requires : tie.Need-point-at-requires Inv-loop μ-loop
+point-at-requires c κs = omega (arith, c .if1 .left)
+
 insert-point-requires : tie.Need-insert-point-requires Inv-loop μ-loop
 insert-point-requires c κs =
-    let r = c .before .before .before .before .before .before in
-    omega (arith, at r .loop .inv .1, at r .loop .inv .2, s r .pre .1, r .before .loop-test .taken)
+    let e = c .before in
+    omega (arith, within e, at (k e) .loop .inv .1, at (k e) .loop .inv .2, k e .next-needed .ensures .from, s (k e) .pre .1)
 
 -- the point was put in
 module _ (c : tie.After-insert-point Inv-loop μ-loop) where
-  abbrev r : tie.After-point-at Inv-loop μ-loop
-  r = c .before .before .before .before .before .before .before
+  abbrev e : tie.After-point-at Inv-loop μ-loop
+  e = c .before .before
+
+  abbrev size : ℕ
+  size = c .insert-point .result
 
   abbrev R : List Point
-  R = firstPoints (c .insert-point .result) (c .insert-point .last .0)
+  R = firstPoints size (c .insert-point .last .0)
 
-  with-it : R ≡ insert (p r) (Q r)
+  with-it : R ≡ insert (p e) (Q (k e))
   with-it = c .insert-point .ensures .1
 
-  one-more : c .insert-point .result ≤ at r .loop .m + 1
-  one-more =
-      let size : length (Q r) ≡ at r .loop .m = length-firstPoints (at r .loop .m) (at r .loop .out)
-      (omega (arith, at r .loop .inv .0, at r .loop .inv .1, at r .loop .inv .2, s r .pre .1)) in
-      omega (arith, c .insert-point .ensures .0, insert-length (p r) (Q r), size)
+  most : size ≤ i (k e) + 1
+  most = omega (arith, c .insert-point .ensures .0, insert-length (p e) (Q (k e)), size-Q (k e), at (k e) .loop .inv .1, k e .next-needed .ensures .from)
 
-  put-in : Kept (numbers (s r .args .disk)) (firstPoints (at r .loop .i + 1) (s r .args .list .now)) R
+  put-in : Kept (d (k e)) (firstPoints (i (k e) + 1) (l (k e))) R
   put-in =
-      let test = c .before .before in
-      now-kept r R (subst (Kept (numbers (s r .args .disk)) (P r ++ (p r ∷ []))) (sym with-it)
-      (kept-put (numbers (s r .args .disk)) (P r) (Q r) (p r) (at r .loop .inv .3) (sym (test .before .on-boundary .ensures) ∙ test .if2 .taken)))
+      subst (λ (P : List Point). Kept (d (k e)) P R) (sym (read e)) (subst (Kept (d (k e)) (firstPoints (i (k e)) (l (k e)) ++ (p e ∷ []))) (sym with-it)
+      (kept-put (d (k e)) (firstPoints (i (k e)) (l (k e))) (Q (k e)) (p e) (passed (k e)) (on e)))
 
   -- what was spanned stays so
-  still-spanned : Spans (numbers (s r .args .disk)) R (at r .loop .span)
-  still-spanned z h k = subst (λ (L : List Point). Spanned (numbers (s r .args .disk)) L z) (sym with-it)
-      (spanned-more (numbers (s r .args .disk)) (Q r) (p r) z (at r .loop .inv .4 z h k))
+  still-spanned : Spans (d (k e)) R (at (k e) .loop .span)
+  still-spanned z h g = subst (λ (L : List Point). Spanned (d (k e)) L z) (sym with-it)
+      (spanned-more (d (k e)) (Q (k e)) (p e) z (at (k e) .loop .inv .4 z h g))
+
+  -- where there are no more points than before, there are as many
+  as-many : size ≤ at (k e) .loop .m → at (k e) .loop .m ≡ size
+  as-many h =
+      let Q' = insert (p e) (Q (k e)) in
+      let rises = passed (k e) .rises in
+      elim (fewer-or-same (Q (k e)) Q' rises (insert-rises (p e) (Q (k e)) rises) (λ x j. insert-old (p e) (Q (k e)) j)) [
+        | inl q ↦ sym (size-Q (k e)) ∙ ap length q ∙ sym (c .insert-point .ensures .0)
+        | inr g ↦ absurd (omega (arith, g, h, size-Q (k e), c .insert-point .ensures .0))
+      ]
+
+  abbrev Next : ℕ → Span → Type 0
+  Next m span =
+      let out = c .insert-point .last .0 in
+      (m ≤ i (k e) + 1) × Kept (d (k e)) (firstPoints (i (k e) + 1) (l (k e))) (firstPoints m out) × Spans (d (k e)) (firstPoints m out) span
+
+  next : {m : ℕ} {span : Span} → m ≡ size → Spans (d (k e)) R span → Next m span
+  next {m} {span} q h = subst (λ (n : ℕ). Next n span) (sym q) (most, put-in, h)
 
 span-with-requires : tie.Need-span-with-requires Inv-loop μ-loop
 span-with-requires c κs =
     let u = c .before .before .before in
-    let e = r u in (
+    let r = k (e u) in (
       (
-        omega (arith, one-more u, u .insert-point .kept .0, at e .loop .inv .1, at e .loop .inv .2, s e .pre .1, e .before .loop-test .taken),
-        limits-small (numbers (s e .args .disk)) (in-limits (s e)),
+        omega (arith, most u, u .insert-point .kept .0, at r .loop .inv .2, s r .pre .1, within (e u)),
+        limits-small (d r) (in-limits (s r)),
       ),
-      (subst (In (p e)) (sym (with-it u)) (insert-new (p e) (Q e)), still-spanned u),
+      (subst (In (p (e u))) (sym (with-it u)) (insert-new (p (e u)) (Q r)), still-spanned u),
     )
 
+add-i : tie.Need-add-i Inv-loop μ-loop
+add-i c = let u = e (c .before .before) in omega (arith, within u, s (k u) .pre .0 .most)
+
 loop-less : tie.Need-loop-less Inv-loop μ-loop
-loop-less c = omega (arith, r (c .before .before .before .before) .before .loop-test .taken)
+loop-less c = let u = e (c .before .before) in omega (arith, within u, k u .next-needed .ensures .from)
 
 loop-again : tie.Need-loop-again Inv-loop μ-loop
 loop-again c =
-    let u = c .before .before .before .before in
-    let e = r u in (
-      omega (arith, e .before .loop-test .taken),
-      omega (arith, one-more u, at e .loop .inv .1),
-      u .insert-point .kept .0 ∙ at e .loop .inv .2,
-      put-in u,
-      c .span-with .ensures,
-    )
-
-loop-less-2 : tie.Need-loop-less-2 Inv-loop μ-loop
-loop-less-2 c = omega (arith, r (c .before .before) .before .loop-test .taken)
-
-loop-again-2 : tie.Need-loop-again-2 Inv-loop μ-loop
-loop-again-2 c =
     let u = c .before .before in
-    let e = r u in (
-      omega (arith, e .before .loop-test .taken),
-      omega (arith, one-more u, at e .loop .inv .1),
-      u .insert-point .kept .0 ∙ at e .loop .inv .2,
-      put-in u,
-      still-spanned u,
-    )
-
--- the point is spanned, as the test said
-spanned : (c : tie.After-is-spanned Inv-loop μ-loop) → c .is-spanned .result ≡ true
-    → let e = c .before .before in Spanned (numbers (s e .args .disk)) (Q e) (p e .x)
-spanned c t =
-    let e = c .before .before in
-    let lo = at e .loop .span .lo in
-    let hi = at e .loop .span .hi in
-    let z = toZ w16 (ofZ w16 (p e .x)) in
-    let within : T (ltZ lo z && ltZ z hi) = subst T (sym (sym (c .is-spanned .ensures) ∙ t)) tt in
-    subst (Spanned (numbers (s e .args .disk)) (Q e)) (toZ-ofZ (record { sfits = c .before .struct-told .given .0 .1 }))
-    (at e .loop .inv .4 z (record { lt = and-left (ltZ lo z) (ltZ z hi) within }) (record { lt = and-right (ltZ lo z) (ltZ z hi) within }))
-
-loop-less-3 : tie.Need-loop-less-3 Inv-loop μ-loop
-loop-less-3 c = omega (arith, c .before .before .before .before .loop-test .taken)
-
-loop-again-3 : tie.Need-loop-again-3 Inv-loop μ-loop
-loop-again-3 c =
-    let e = c .before .before .before in
-    let d = numbers (s e .args .disk) in
-    let k = at e .loop .inv .3 in
-    let left-out : Kept d (P e ++ (p e ∷ [])) (Q e) =
-    elim (c .if1 .came) [
-      | inl t ↦ kept-off d (P e) (Q e) (p e) k (sym (t .1 .ensures) ∙ t .2 .left)
-      | inr t ↦ kept-spanned d (P e) (Q e) (p e) k (spanned (c .before) (not-false (c .before .is-spanned .result) (t .left)))
+    let r = k (e u) in
+    let spans = Spans (d r) (R u) in
+    let a : Next u (c .if2 .m) (c .if2 .span) =
+    elim (c .if2 .came) [
+      | inl t ↦ next u (t .3) (subst spans (sym (t .4)) (t .2 .ensures))
+      | inr t ↦ next u (t .1 ∙ as-many u (omega (arith, t .0 .left))) (subst spans (sym (t .2)) (still-spanned u))
     ] in
-    (omega (arith, e .before .loop-test .taken), omega (arith, at e .loop .inv .1), at e .loop .inv .2, now-kept e (Q e) left-out, at e .loop .inv .4)
-
-same-length : tie.Need-same-length Inv-loop μ-loop
-same-length c = c .before .loop .inv .2
-
-returns : tie.Need-returns Inv-loop μ-loop
-returns c =
-    let l = c .before .loop in
-    let st = c .before .before in
-    let whole : firstPoints (l .i) (st .args .list .now) ≡ points (st .args .list .now) = firstPoints-whole (l .i) (st .args .list .now)
-    (omega (arith, l .inv .0)) (omega (arith, c .loop-test .left)) in (
-      omega (arith, l .inv .0, l .inv .1, l .inv .2, st .pre .1),
-      kept-finds (points (st .args .list .now)) (points-some (st .args .list .now) (st .pre .0 .some)) (numbers (st .args .disk)) (st .pre .0 .smallest)
-          (firstPoints (l .m) (l .out))
-          (subst (λ (P : List Point). Kept (numbers (st .args .disk)) P (firstPoints (l .m) (l .out))) whole (l .inv .3)),
-    )
+    (omega (arith, within (e u)), a .0, u .insert-point .kept .0 ∙ at r .loop .inv .2, a .1, a .2)
 
 pub collect-spec : {M : Type 1} → statement M
 collect-spec =
@@ -213,17 +212,12 @@ collect-spec =
     Inv-loop
     μ-loop
     loop-holds
+    next-needed-requires
+    same-length
+    returns
     point-at-requires
-    add-i
-    is-spanned-requires
-    on-boundary-requires
     insert-point-requires
     span-with-requires
+    add-i
     loop-less
-    loop-again
-    loop-less-2
-    loop-again-2
-    loop-less-3
-    loop-again-3
-    same-length
-    returns)
+    loop-again)
