@@ -2,21 +2,21 @@
 --
 --   Kept d P Q          == Q rises, its points are points of P on d's boundary, and the others of these are spanned by points of Q
 --   kept-none, kept-put : at the start, and with a point put in
---   kept-passed         : with points passed by, none of which is needed
+--   kept-next, next-on  : up to the next point that is needed, and that this is on the boundary
 --   kept-finds          : the first set of Q that passes its test is the first support set of P
 use mathlib.Core.Path.{_≡_, sym, _∙_, ap, subst}
 use mathlib.Core.Logic.{_⊎_, inl, inr}
 use mathlib.Core.Bool.{Bool, true, false, not, _&&_}
 use mathlib.Core.List.{List, [], _∷_, _++_, List·Memᴰ·head, List·Memᴰ·cases-cons, List·Memᴰ·not-nil, List·Memᴰ·eq-of-singleton}
 use mathlib.Core.List.{List·Memᴰ·append-cases, Memᴰ·append-left, Memᴰ·append-right}
-use Prim.Native.Nat.{ℕ, zero, suc, _+_, _*_, _≤_, _<_}
+use Prim.Native.Nat.{ℕ, zero, suc, _+_, _-_, _*_, _/_, _≤_, _<_}
 use native.Mathlib.Nat.{add-zero}
 use native.Mathlib.Omega.{arith}
 use lib.Dec.{T, eqb→eq}
 use lib.IntN.{ℤ, pos, negsuc, _+ℤ_, _-ℤ_, _*ℤ_}
 use lib.ListN.{length}
 use lib.Signed.{ltZ, _<ℤ_, _≤ℤ_}
-use Rattle.integers.proofs.Tests.{and-left, and-right}
+use Rattle.integers.proofs.Tests.{rest, and-left, and-right}
 use Rattle.integers.proofs.Order.{eqZ-eq, ≤-of-eq, ≤-of-<, <-≤-clash, <-trans, ≡-cancel, sum-squares-zero, nonneg, le, eq, _⊞_}
 use Rattle.integers.proofs.Laws.{eq-of-sub}
 use Rattle.integers.proofs.Ring.{poly, linear, eqn, _&_}
@@ -40,9 +40,9 @@ use Rattle.disks.proofs.First.{Passes, first-passes, Candidate, candidate, a-ca
 use Rattle.support_tests.specs.Tests.{onBoundaryTest, midway, opposite, fits}
 use Rattle.support_search.specs.Search.{firstFit}
 use Rattle.support_span.specs.declared.Span.{Span}
-use Rattle.support_span.specs.Span.{Spanned, Spans}
+use Rattle.support_span.specs.Span.{Spanned, Spans, strictlyWithin}
 use Rattle.support_span.proofs.Spans.{spanned-more}
-use Rattle.support.specs.Needed.{needed}
+use Rattle.support.specs.Needed.{needed, NextNeeded}
 use Rattle.support.proofs.Boundary.{boundaryOf, boundary-in, in-boundary}
 use Rattle.support.proofs.SearchFinds.{search-finds, search-passes, e-some}
 
@@ -103,7 +103,7 @@ module _ (d : Disk) (s : Span) (Q : List Point) (spans : Spans d Q s) where
       let w = unless (left && right) (onBoundaryTest d p) h t in
       spans (p .x) (record { lt = and-left left right w }) (record { lt = and-right left right w })
 
-  pub kept-passed : (l : List ℤ) (i n : ℕ) → 2 * (i + n) ≤ length l → ((j : ℕ) → i ≤ j → j < i + n → needed d s (pointAt l j) ≡ false)
+  kept-passed : (l : List ℤ) (i n : ℕ) → 2 * (i + n) ≤ length l → ((j : ℕ) → i ≤ j → j < i + n → needed d s (pointAt l j) ≡ false)
       → Kept d (firstPoints i l) Q → Kept d (firstPoints (i + n) l) Q
   kept-passed l i zero room passed k = rw (add-zero i) k
   kept-passed l i (suc n) room passed k =
@@ -113,6 +113,15 @@ module _ (d : Disk) (s : Span) (Q : List Point) (spans : Spans d Q s) where
       let before = kept-passed l i n (omega arith) (λ j a b. passed j a (omega arith)) k in
       let now = left-out d P Q p before (not-needed p (passed (i + n) (omega arith) (omega arith))) in
       subst (λ (m : ℕ). Kept d (firstPoints m l) Q) one-more (subst (λ (L : List Point). Kept d L Q) (sym (firstPoints-next (i + n) l (omega arith))) now)
+
+  pub kept-next : (l : List ℤ) (i r : ℕ) → NextNeeded d s l i r → Kept d (firstPoints i l) Q → Kept d (firstPoints r l) Q
+  kept-next l i r t k =
+      let there : i + (r - i) ≡ r = omega (arith, t .from) in
+      subst (λ (m : ℕ). Kept d (firstPoints m l) Q) there
+      (kept-passed l i (r - i) (omega (arith, there, t .most)) (λ j a b. t .passed j a (omega (arith, there))) k)
+
+pub next-on : {d : Disk} {s : Span} {l : List ℤ} {i r : ℕ} → NextNeeded d s l i r → r < length l / 2 → onBoundaryTest d (pointAt l r) ≡ true
+next-on {d} {s} {l} {r} t h = rest (not (strictlyWithin s (pointAt l r .x))) (onBoundaryTest d (pointAt l r)) (t .found h)
 
 -- ---- opposite points
 

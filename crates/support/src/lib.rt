@@ -42,20 +42,17 @@ fn collect(list: &[i16], disk: Disk, power: i64, out: &mut [i16]) -> usize
     let mut m: usize = 0;
     let mut span = Span { lo: 0, hi: 0 };
     let n = list.len() / 2;
-    let mut i: usize = 0;
-    loop {
-        i = next_needed(list, i, disk, power, span);
-        if n <= i {
-            return m;
-        }
+    let mut i = next_needed(list, 0, disk, power, span);
+    while i < n {
         let p = geometry::point_at(list, i);
         let size = rising_lists::insert_point(out, m, p);
         if m < size {
             span = support_span::span_with(out, size, disk, p, span);
-            m = size;
         }
-        i += 1;
+        m = size;
+        i = next_needed(list, i + 1, disk, power, span);
     }
+    m
 }
 
 // The search, with room lent for the boundary points. The procedure leaves one of them in front.
