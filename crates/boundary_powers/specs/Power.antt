@@ -2,16 +2,12 @@
 --
 --   powerOf d p      == E|p|² − 2(Xx + Yy): the power of p in d, times E, but for a number that does not depend on p
 --   OfBoundary d k   == k is the power of a point on d's boundary
---   SomeOn d l       == some point of the list l is on d's boundary
 use mathlib.Core.Bool.{true}
 use mathlib.Core.Path.{_≡_}
-use mathlib.Core.List.{List}
-use Prim.Native.Nat.{ℕ, _+_, _*_, _≤_}
+use Prim.Native.Nat.{ℕ}
 use lib.IntN.{ℤ, pos, _+ℤ_, _-ℤ_, _*ℤ_}
-use lib.ListN.{length}
 use Rattle.geometry.specs.declared.Point.{Point}
 use Rattle.geometry.specs.Plane.{Disk}
-use Rattle.geometry.specs.Points.{pointAt}
 use Rattle.support_tests.specs.Tests.{onBoundaryTest}
 
 unfoldable pub powerAlong : ℤ → ℕ → ℤ → ℤ
@@ -24,8 +20,3 @@ pub record OfBoundary (d : Disk) (k : ℤ) : Type 0 where
   pub point : Point
   pub on : onBoundaryTest d point ≡ true
   pub power-is : k ≡ powerOf d point
-
-pub record SomeOn (d : Disk) (l : List ℤ) : Type 0 where
-  pub place : ℕ
-  pub there : 2 * place + 2 ≤ length l
-  pub on : onBoundaryTest d (pointAt l place) ≡ true

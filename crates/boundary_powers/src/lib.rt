@@ -6,7 +6,7 @@ ghost use mathlib.Core.Path.{_≡_};
 ghost use Prim.Native.Nat.{_≤_};
 ghost use Rattle.geometry.specs.Plane.{numbers};
 ghost use Rattle.support_tests.specs.Tests.{onBoundaryTest, SmallPair, SmallDisk};
-ghost use Rattle.boundary_powers.specs.Power.{powerAlong, powerOf, OfBoundary, SomeOn};
+ghost use Rattle.boundary_powers.specs.Power.{powerAlong, powerOf, OfBoundary};
 
 // v(v·e − 2c)
 fn power_along(v: i16, e: u64, c: i64) -> i64
@@ -18,28 +18,13 @@ fn power_along(v: i16, e: u64, c: i64) -> i64
 }
 
 // The power of p, times E, but for a number that is the same for every point.
-fn power(disk: Disk, p: Point) -> i64
+pub fn power(disk: Disk, p: Point) -> i64
     requires { ⌜ SmallDisk (numbers disk) ⌝ }
     ensures { λ r. ⌜ r ≡ powerOf (numbers disk) p ⌝ }
 {
     let a = power_along(p.x, disk.e, disk.x);
     let b = power_along(p.y, disk.e, disk.y);
     a + b
-}
-
-// The power of the boundary's points, by the first of the list that is one.
-pub fn boundary_power(list: &[i16], disk: Disk) -> i64
-    requires { ⌜ SmallDisk (numbers disk) × SomeOn (numbers disk) (now list) ⌝ }
-    ensures { λ r. ⌜ OfBoundary (numbers disk) r ⌝ }
-{
-    let n = list.len() / 2;
-    for i in 0..n {
-        let q = geometry::point_at(list, i);
-        if support_tests::on_boundary(disk, q) {
-            return power(disk, q);
-        }
-    }
-    0
 }
 
 // Whether p is on the boundary (01: on the rim), whose points have the power k.

@@ -31,7 +31,7 @@ use Rattle.fixed_points.specs.declared.Boundary.{Boundary}
 use Rattle.fixed_points.specs.declared.Boundary.the-variants.{None, One, Two, Three}
 use Rattle.fixed_points.specs.Boundary.{members, Boxed}
 use Rattle.fitting.specs.Decides.{Found, NoneFits}
-use Rattle.fitting.proofs.OnBoundary.{run-on}
+use Rattle.fixed_points.proofs.OnBoundary.{run-on}
 
 pub members-most : (R : Boundary) → length (members R) ≤ 3
 members-most None = omega arith

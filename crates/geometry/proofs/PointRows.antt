@@ -3,14 +3,13 @@
 --   drop-points           : the points from point i on are those of the numbers from number 2i on
 --   points-from           : they are point i and the points behind it
 --   points-some           : a list of two numbers or more has a point
---   pointAt-in, in-pointAt : point i is one of the points, and each of them is point i for some i
+--   pointAt-in            : point i is one of the points
 --   firstPoints-from, firstPoints-end : so of the first n points, up to the last
 --   firstPoints-take      : the first k of the first n points
 --   drop-next             : lists with the same numbers from 2i on have the same from 2(i + 1) on
 --   pointAt-drop          : lists with the same numbers from 2i on have the same point i
 use mathlib.Core.Path.{_≡_, refl, sym, ap, subst, _∙_}
-use mathlib.Core.Logic.{_⊎_, inl, inr}
-use mathlib.Core.List.{List, [], _∷_, List·Memᴰ, List·Memᴰ·cases-cons, List·Memᴰ·not-nil}
+use mathlib.Core.List.{List, [], _∷_, List·Memᴰ}
 use Prim.Native.Nat.{ℕ, zero, suc, _+_, _*_, _/_, _≤_, _<_}
 use native.Mathlib.Nat.{add-zero}
 use native.Mathlib.Omega.{arith}
@@ -46,27 +45,6 @@ pub pointAt-in : (i : ℕ) (l : List ℤ) → 2 * i + 2 ≤ length l → List·M
 pointAt-in i l h =
     let n = length l / 2 in
     subst (List·Memᴰ (pointAt l i)) (firstPoints-whole n l (omega arith) (omega arith)) (pointAt-firstPoints i n l (omega arith) (omega arith))
-
--- point i + 1 of a list is point i behind its first
-behind : (x y : ℤ) (l : List ℤ) (i : ℕ) → pointAt (x ∷ y ∷ l) (suc i) ≡ pointAt l i
-behind x y l i =
-    let at : (k : ℕ) → getD (x ∷ y ∷ l) (2 * suc i + k) (pos 0) ≡ getD l (2 * i + k) (pos 0) = λ k. rw (ahead k) in
-    let x-is : getD (x ∷ y ∷ l) (2 * suc i) (pos 0) ≡ getD l (2 * i) (pos 0) = rw (add-zero (2 * suc i), add-zero (2 * i)) at (at 0) in
-    λ j. record { x = x-is j; y = at 1 j }
-  where
-    ahead : (k : ℕ) → 2 * suc i + k ≡ suc (suc (2 * i + k))
-    ahead k = omega arith
-
-pub in-pointAt : (l : List ℤ) (p : Point) → List·Memᴰ p (points l) → (i : ℕ) × (2 * i + 2 ≤ length l) × (pointAt l i ≡ p)
-unfolding points
-in-pointAt [] p m = absurd (List·Memᴰ·not-nil m)
-in-pointAt (x ∷ []) p m = absurd (List·Memᴰ·not-nil m)
-in-pointAt (x ∷ y ∷ l) p m = go (in-pointAt l p) (List·Memᴰ·cases-cons m)
-  where
-    go : (List·Memᴰ p (points l) → (i : ℕ) × (2 * i + 2 ≤ length l) × (pointAt l i ≡ p)) → (p ≡ record { x = x; y = y }) ⊎ List·Memᴰ p (points l)
-        → (i : ℕ) × (2 * i + 2 ≤ length (x ∷ y ∷ l)) × (pointAt (x ∷ y ∷ l) i ≡ p)
-    go f (inl e) = (0, omega arith, sym e)
-    go f (inr k) = let r = f k in (suc (r .0), omega (arith, r .1), behind x y l (r .0) ∙ r .2)
 
 module _ (n i : ℕ) (l : List ℤ) (fits : 2 * n ≤ length l) where
   pub firstPoints-from : i < n → drop i (firstPoints n l) ≡ pointAt l i ∷ drop (i + 1) (firstPoints n l)

@@ -4,7 +4,6 @@
 --   found-first              : among the boundary points of P's disk, sorted, the search finds the first support set of P
 --   search-finds             : firstFit d (sorted (boundaryOf d P)) ≡ firstSupport P, for d the disk of P, of at least one point
 --   search-passes            : and that set passes its test
---   some-on                  : some point of P is on d's boundary
 --   support-some, e-some, within-limits : it has a point; d is not empty, and keeps the limits of 01 where P is in the em box
 use mathlib.Core.Path.{_≡_, refl, sym, _∙_, ap, subst}
 use mathlib.Core.Logic.{_⊎_, inl, inr}
@@ -16,7 +15,6 @@ use lib.Dec.{T}
 use lib.IntN.{ℤ, pos, negsuc, _*ℤ_}
 use lib.ListN.{length}
 use lib.Signed.{_<ℤ_}
-use Rattle.integers.proofs.Tests.{test-true}
 use Rattle.integers.proofs.Ring.{poly, linear, eqn, _&_}
 use Rattle.integers.proofs.Order.{≡-cancel}
 use Rattle.geometry.specs.declared.Point.{Point}
@@ -29,7 +27,7 @@ use Rattle.point_lists.proofs.Sets.{none-of, also, same-refl}
 use Rattle.point_lists.proofs.Rising.{sorted-rises, sorted-same, sorted-length}
 use Rattle.disks.specs.Smallest.{Smallest}
 use Rattle.disks.specs.Procedure.{diskOf}
-use Rattle.disks.specs.Support.{candidates, choose, firstOf, firstSupport}
+use Rattle.disks.specs.Support.{candidates, firstOf, firstSupport}
 use Rattle.disks.specs.FirstSupport.{IsSupport, IsFirstSupport, Earlier, fewer, lexical}
 use Rattle.disks.proofs.Lifted.{Lifted, value}
 use Rattle.disks.proofs.Minimal.{StronglyMinimal, strong-same}
@@ -47,7 +45,7 @@ use Rattle.disks.proofs.OneWriting.{smallest-same}
 use Rattle.disks.proofs.Answer.{em-square, limits}
 use Rattle.disks.proofs.Choose.{Among}
 use Rattle.disks.proofs.First.{Passes, first-passes, Candidate, candidate, a-candidate, candidates-earlier, first-support, first-unique}
-use Rattle.support_tests.specs.Tests.{onBoundaryTest, fits}
+use Rattle.support_tests.specs.Tests.{fits}
 use Rattle.support_tests.proofs.SetTests.{on-value, value-on, one-strong, strong-one, two-strong, strong-two, three-strong, acute-three}
 use Rattle.support_search.specs.Search.{firstFit}
 use Rattle.support.proofs.Boundary.{boundaryOf, boundary-in, in-boundary}
@@ -277,19 +275,3 @@ module _ (P : List Point) (some : 1 ≤ length P) (d : Disk) (is : d ≡ diskOf 
 
   pub within-limits : allInEmBox P ≡ true → WithinLimits em d
   within-limits = by-point (λ d P. allInEmBox P ≡ true → WithinLimits em d) (λ p P boxed. limits em em-square p P (box-members (p ∷ P) boxed))
-
-  -- no search among no points finds any
-  none-found : (Q : List Point) → Q ≡ [] → length (firstFit d (sorted Q)) ≡ 0
-  unfolding firstFit sorted firstOf choose
-  none-found Q e = rw e
-
-  pub some-on : (q : Point) × In q P × (onBoundaryTest d q ≡ true)
-  some-on = go (boundaryOf d P) refl
-    where
-      go : (Q : List Point) → boundaryOf d P ≡ Q → (q : Point) × In q P × (onBoundaryTest d q ≡ true)
-      go [] e =
-          let found = none-found (boundaryOf d P) e in
-          absurd (omega (arith, found, ap length search-finds, support-some))
-      go (q ∷ Q) e =
-          let on = boundary-in d P q (subst (In q) (sym e) (List·Memᴰ·head refl)) in
-          (q, on .0, test-true (onBoundaryTest d q) (on .1))

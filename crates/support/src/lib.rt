@@ -55,12 +55,12 @@ fn collect(list: &[i16], disk: Disk, power: i64, out: &mut [i16]) -> usize
     m
 }
 
-// The search, with room lent for the boundary points. The procedure leaves one of them in front.
+// The search, with room lent for the boundary points. The procedure leaves one of them in front, and its power is that of all.
 fn search_in(list: &[i16], disk: Disk, room: &mut [i16]) -> SupportSet
     requires { ⌜ Asked (now list) (numbers disk) × (length (now list) ≤ length (now room)) ⌝ }
     ensures { λ r. ⌜ members r ≡ firstSupport (points (now (list .entry))) ⌝ }
 {
-    let power = boundary_powers::boundary_power(list, disk);
+    let power = boundary_powers::power(disk, geometry::point_at(list, 0));
     let n = collect(list, disk, power, room);
     support_search::search(room, n, disk)
 }

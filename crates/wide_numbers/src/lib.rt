@@ -8,6 +8,9 @@ ghost use Rattle.wide_numbers.specs.Value.{value};
 // Half a word, 2^32.
 const HALF: u64 = 4_294_967_296;
 
+// 2^31: the squares of two numbers below it make one word.
+const SMALL: u64 = 2_147_483_648;
+
 // hi * 2^64 + lo
 #[repr(C)]
 pub struct Wide {
@@ -49,12 +52,18 @@ fn sum(a: Wide, b: Wide) -> Wide
     }
 }
 
-// a² + b²
+// a² + b². As a rule a and b are so small that one word holds it.
 pub fn sum_of_squares(a: i64, b: i64) -> Wide
     ensures { λ r. ⌜ pos (value r) ≡ a *ℤ a +ℤ b *ℤ b ⌝ }
 {
     let m = integers::magnitude(a);
     let n = integers::magnitude(b);
+    if m < SMALL && n < SMALL {
+        return Wide {
+            hi: 0,
+            lo: m * m + n * n,
+        };
+    }
     sum(product(m, m), product(n, n))
 }
 

@@ -7,14 +7,15 @@ use borrow.Author.Needs.{needs}
 use denote.Ref.{now}
 use lib.IntN.{ℤ}
 use Rattle.answers.specs.Outcome.{given, refused, numberOf}
-use Rattle.geometry.specs.Plane.{members}
-use Rattle.geometry.specs.Points.{points}
+use Rattle.geometry.specs.Plane.{Disk, members, onBoundary}
+use Rattle.geometry.specs.Points.{points, pointAt}
+use Rattle.geometry.proofs.PointRows.{points-some}
 use Rattle.disks.specs.Support.{firstSupport}
 use Rattle.engine.specs.Engine.{enclosure, encloseOf}
 use Rattle.engine.specs.Checks.{Checks}
 use Rattle.engine.proofs.Accepted.{Accepted, accepted-list}
 use Rattle.engine.proofs.Checks.{list-refused, list-accepted, even-length, some-length}
-use Rattle.engine.proofs.LeftList.{box-left, disk-left, support-left}
+use Rattle.engine.proofs.LeftList.{box-left, disk-left, support-left, front-left}
 use Rattle.engine.proofs.smallest_disk.Statement.{statement}
 use Rattle.engine.proofs.smallest_disk.Tie as tie
 
@@ -57,6 +58,8 @@ first-support-requires c κs =
       most = omega (arith, a .smallest .kept .0, r .few, even-length l (r .even));
       boxed = box-left (points l) left (r .boxed);
       smallest = a .smallest .ensures .0 ∙ sym (disk-left (points l) left);
+      front = subst (λ (k : Disk). onBoundary k (pointAt (a .smallest .last .0) 0)) (sym (a .smallest .ensures .0))
+          (front-left (points l) left (points-some l (omega (arith, some-length l (r .some), even-length l (r .even)))));
     }
 
 enum-known-r : tie.Need-enum-known-r

@@ -1,11 +1,12 @@
--- The disk on which a run of the procedure ends has R on its boundary, whether or not any disk fits.
+-- The disk on which a run of the procedure ends has R on its boundary, whether or not any disk fits; and from no point fixed, the point that it leaves in front.
 --
 --   On c q        == the cover c has q on its boundary, if it is a disk with E at least 1; three points in a row have E = 0
 --   boundary-on   : the smallest disk with R on its boundary, R of at most three points, whatever they are
 --   run-on        : the disk of every run
-use mathlib.Core.Path.{_≡_, sym, ap, _∙_, subst}
-use mathlib.Core.Bool.{Bool, true, false}
-use mathlib.Core.List.{List, [], _∷_, List·Memᴰ·tail}
+--   front-on      : the smallest disk of a list has the first point of the list, as the procedure leaves it, on its boundary
+use mathlib.Core.Path.{_≡_, refl, sym, ap, _∙_, subst}
+use mathlib.Core.Bool.{Bool, true, false, true≢false}
+use mathlib.Core.List.{List, [], _∷_, _++_, List·Memᴰ·head, List·Memᴰ·tail}
 use mathlib.Core.Logic.{_≢_}
 use Prim.Native.Nat.{ℕ, zero, suc, _+_, _≤_}
 use native.Mathlib.Omega.{arith}
@@ -16,7 +17,7 @@ use Rattle.geometry.specs.declared.Point.{Point}
 use Rattle.geometry.specs.Plane.{Disk, onBoundary}
 use Rattle.point_lists.specs.Sets.{In}
 use Rattle.point_lists.proofs.Sets.{none-of}
-use Rattle.disks.specs.Procedure.{Cover, disk, outside, circle, boundaryDisk, State, tested, step, through, start, run, diskIn}
+use Rattle.disks.specs.Procedure.{Cover, empty, disk, outside, circle, boundaryDisk, State, tested, step, through, start, run, diskIn, diskOf, orderOf}
 use Rattle.disks.proofs.Lifted.{Lifted}
 use Rattle.disks.proofs.Minimal.{Feasible}
 use Rattle.disks.proofs.Base.{point-strong, pair-strong, positive-not-zero}
@@ -25,7 +26,8 @@ use Rattle.disks.proofs.LowestTerms.{lowered, lowered-written}
 use Rattle.disks.proofs.StrongSmallest.{written-on}
 use Rattle.disks.proofs.Bridge.{point-lowered, diameter-lowered, circle-lowered}
 use Rattle.disks.proofs.Tests.{row-weight}
+use Rattle.disks.proofs.Welzl.{mtf-ends, smallest}
 use Rattle.fixed_points.proofs.KeptDisks.{row-circle}
 
 abbrev pub On : Cover → Point → Type 0
 On c q = (d : Disk) → c ≡ disk d → 1 ≤ d .e → onBoundary d q
@@ -81,3 +83,33 @@ pub run-on : (k : ℕ) → RunsOn k
 unfolding run
 run-on zero R P h q i = boundary-on R (omega arith) q i
 run-on (suc k) R P h q i = all-on k R (run-on k) h q i (start R []) P (boundary-on R (omega arith) q i)
+
+-- ---- the point left in front
+
+-- what is left has a point of the cover's boundary in front; where nothing is left, the cover is empty
+abbrev InFront : Cover → List Point → Type 0
+InFront c [] = c ≡ empty
+InFront c (q ∷ L) = On c q
+
+held-behind : (c : Cover) (L : List Point) (p : Point) → outside c p ≡ false → InFront c L → InFront c (L ++ (p ∷ []))
+unfolding outside
+held-behind c [] p t h = absurd (true≢false (ap (λ (k : Cover). outside k p) (sym h) ∙ t))
+held-behind c (q ∷ L) p t h = h
+
+tested-front : (b : Bool) (s : State) (p : Point) → outside (s .cover) p ≡ b → InFront (s .cover) (s .left)
+    → let t = tested b s p (run 2 (p ∷ []) (s .left)) in InFront (t .cover) (t .left)
+unfolding tested
+tested-front true s p e h = run-on 2 (p ∷ []) (s .left) (omega arith) p (List·Memᴰ·head refl)
+tested-front false s p e h = held-behind (s .cover) (s .left) p e h
+
+all-front : (s : State) (P : List Point) → InFront (s .cover) (s .left) → let t = through (step (run 2) []) s P in InFront (t .cover) (t .left)
+unfolding through step
+all-front s [] h = h
+all-front s (p ∷ P) h = all-front (step (run 2) [] s p) P (tested-front (outside (s .cover) p) s p refl h)
+
+in-front : (P : List Point) → InFront (run 3 [] P .cover) (orderOf P)
+unfolding run boundaryDisk
+in-front P = all-front (start [] []) P refl
+
+pub front-on : (p : Point) (P : List Point) (q : Point) (L : List Point) → orderOf (p ∷ P) ≡ q ∷ L → onBoundary (diskOf (p ∷ P)) q
+front-on p P q L e = subst (InFront (run 3 [] (p ∷ P) .cover)) e (in-front (p ∷ P)) (diskOf (p ∷ P)) (mtf-ends p P) (smallest p P .proper)
