@@ -21,13 +21,11 @@ fn next_needed(list: &[i16], i: usize, disk: Disk, power: i64, span: Span) -> us
     ensures { λ r. ⌜ NextNeeded (numbers disk) span (now (list .entry)) i r ⌝ }
 {
     let n = list.len() / 2;
-    let mut k = i;
-    while k < n {
+    for k in i..n {
         let p = geometry::point_at(list, k);
         if !support_span::is_spanned(span, p.x) && boundary_powers::on_boundary(disk, power, p) {
             return k;
         }
-        k += 1;
     }
     n
 }
