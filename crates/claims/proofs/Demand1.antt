@@ -22,6 +22,7 @@ demand-one = record {
   through = calls.through;
   traced = calls.traced;
   hull = calls.hull;
+  stretch = calls.stretch;
   loader-keeps = λ t l n e. after-refused t l n e;
   engine-keeps = λ l n e. list-refused l e;
   writer-keeps = λ d ps b n e. ap (λ (o : Outcome (Unit {0})). leftBy o d ps b) e;

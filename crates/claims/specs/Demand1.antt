@@ -7,7 +7,7 @@
 -- `GoesBy row o`: o is refused with n exactly where n is due first by the row, and a value is given exactly where every rule is kept (rules/specs/Row.antt).
 -- The rows, with the papers' numbers in their order: rules/specs/Rules.antt. The loader is lent a list, the engine its point list, the writer a
 -- buffer, the call of document 02, item 2 a list that it puts a point into, and that of item 8 the list that it reduces; descriptions, sheets, records and
--- the lists of the calls of items 6 and 7 are lent to be read alone.
+-- the lists of the calls of items 6, 7 and 11 are lent to be read alone.
 use mathlib.Core.Path.{_≡_}
 use mathlib.Core.List.{List}
 use Prim.Native.Nat.{ℕ}
@@ -27,6 +27,7 @@ use Rattle.chosen_points.specs.Chosen.{throughOf}
 use Rattle.traced_points.specs.Traced.{tracedOf}
 use Rattle.hull_points.specs.Reducing as reducing
 use Rattle.hull_points.specs.Reducing.{reduceOf}
+use Rattle.widest_stretch.specs.Stretching.{stretchOf}
 use Rattle.preview.specs.Preview.{previewOf}
 use Rattle.radius.specs.Radius.{radiusOf}
 use Rattle.record_writer.specs.Writing.{writeOf, bufferAfter}
@@ -47,6 +48,7 @@ pub record Demand1 : Type 0 where
   pub through : (l : List ℤ) (c : Chosen) → GoesBy (throughRow l c) (throughOf l c)
   pub traced : (l : List ℤ) → GoesBy (tracedRow l) (tracedOf l)
   pub hull : (l : List ℤ) → GoesBy (engineRow l) (reduceOf l)
+  pub stretch : (l : List ℤ) → GoesBy (engineRow l) (stretchOf l)
   -- "and changes nothing it was lent"
   pub loader-keeps : (t : List ℕ) (l : List ℤ) (n : ℕ) → loadOf t l ≡ refused n → description.listAfter t l ≡ l
   pub engine-keeps : (l : List ℤ) (n : ℕ) → encloseOf l ≡ refused n → listAfter l ≡ l

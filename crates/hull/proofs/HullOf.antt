@@ -6,10 +6,14 @@
 --   around-hull                 : of a rising list Q, `around Q` is the hull
 --   hull-of                     : IsHull P (hullOf P), for every list P
 --   hullOf-only                 : and only `hullOf P` is
+--   hull-some                   : the hull of some points has a corner
 use mathlib.Core.Path.{_≡_, refl, sym, _∙_, ap, subst}
 use mathlib.Core.Logic.{_⊎_, inl, inr}
 use mathlib.Core.List.{List, [], _∷_, _++_, reverse, reverse-cons, List·Memᴰ·head, List·Memᴰ·tail, List·Memᴰ·cases-cons, List·Memᴰ·not-nil}
 use mathlib.Core.List.{List·Memᴰ·append-cases, Memᴰ·append-left, Memᴰ·append-right}
+use Prim.Native.Nat.{_≤_}
+use native.Mathlib.Omega.{arith}
+use lib.ListN.{length}
 use Rattle.geometry.specs.declared.Point.{Point}
 use Rattle.point_lists.specs.Sets.{In}
 use Rattle.point_lists.specs.Rising.{sorted, Rising}
@@ -146,3 +150,11 @@ hull-of P = hull-same (same-sym (sorted-same P)) (around-hull (sorted P) (sorted
 
 pub hullOf-only : (P H : List Point) → IsHull P H → H ≡ hullOf P
 hullOf-only P H h = hull-unique H (hullOf P) h (hull-of P)
+
+some-corner : {p : Point} {P : List Point} (H : List Point) → IsHull (p ∷ P) H → 1 ≤ length H
+some-corner {p} [] h = absurd (h .corners p (List·Memᴰ·head refl))
+some-corner (a ∷ H) h = omega arith
+
+pub hull-some : (P : List Point) → (P ≡ [] → ⊥) → 1 ≤ length (hullOf P)
+hull-some [] n = absurd (n refl)
+hull-some (p ∷ P) n = some-corner (hullOf (p ∷ P)) (hull-of (p ∷ P))

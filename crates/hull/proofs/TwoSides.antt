@@ -92,7 +92,7 @@ up-to-above p q e h = go (compared (p .y) (q .y))
     go (same k) = inl (point-path e k)
     go (more k) = <-≤-clash k h
 
-up-to-trans : (p q r : Point) → UpTo p q → UpTo q r → UpTo p r
+pub up-to-trans : (p q r : Point) → UpTo p q → UpTo q r → UpTo p r
 up-to-trans p q r (inl e) k = subst (λ (x : Point). UpTo x r) (sym e) k
 up-to-trans p q r (inr h) (inl e) = inr (subst (λ (x : Point). T (before p x)) e h)
 up-to-trans p q r (inr h) (inr k) = inr (before-trans p q r h k)

@@ -134,7 +134,7 @@ module _ {P : List Point} (a b : Point) (a-in : In a P) where
 
 -- ---- polygons
 
-least-same : (a b : Point) → UpTo a b → UpTo b a → a ≡ b
+pub least-same : (a b : Point) → UpTo a b → UpTo b a → a ≡ b
 least-same a b (inl e) k = e
 least-same a b (inr s) (inl e) = sym e
 least-same a b (inr s) (inr t) = before-clash a b s t

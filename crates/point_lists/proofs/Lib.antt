@@ -4,3 +4,4 @@ pub mod SetTests
 pub mod Order
 pub mod Rising
 pub mod Put
+pub mod Copied

@@ -63,7 +63,7 @@ fn print_wide(w: Wide) {
     }
 }
 
-fn print_point(p: Point) {
+pub fn print_point(p: Point) {
     print_number(geometry::wide(p.x));
     print_number(geometry::wide(p.y));
 }

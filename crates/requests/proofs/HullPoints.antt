@@ -6,7 +6,7 @@
 --   hull-points   : HullPoints
 use mathlib.Core.Path.{_≡_, refl, sym, _∙_, ap, ap₂, subst}
 use mathlib.Core.Bool.{Bool, true, false, true≢false}
-use mathlib.Core.List.{List, [], _∷_, _++_, List·Memᴰ·head}
+use mathlib.Core.List.{List, [], _∷_, _++_}
 use Prim.Native.Nat.{ℕ, _*_, _-_, _%_, _≤_}
 use native.Mathlib.Omega.{arith}
 use lib.IntN.{ℤ, pos}
@@ -27,7 +27,7 @@ use Rattle.engine.specs.Engine.{Enclosure, encloseOf}
 use Rattle.engine.proofs.Accepted.{Accepted, accepted-list, has-point}
 use Rattle.hull.specs.Hull.{IsHull}
 use Rattle.hull.specs.Chains.{hullOf}
-use Rattle.hull.proofs.HullOf.{hull-of, hullOf-only}
+use Rattle.hull.proofs.HullOf.{hull-of, hullOf-only, hull-some}
 use Rattle.hull.proofs.Different.{hull-length}
 use Rattle.hull.proofs.Means.{mean}
 use Rattle.hull.proofs.Extreme.{extreme, not-in-row}
@@ -56,14 +56,6 @@ sticking-in {P} {H} h p s = go (has H p) refl
     go false e = absurd (s .1 H (h .members) (λ i. true≢false (sym (in-has H p i) ∙ e)) (mean H h p (s .0)))
 
 -- ---- the hull of a list that the engine accepts
-
-none-there : {p : Point} {P : List Point} (H : List Point) → IsHull (p ∷ P) H → length H ≡ 0 → ⊥
-none-there {p} [] h e = h .corners p (List·Memᴰ·head refl)
-none-there (a ∷ H) h e = omega arith
-
-hull-some : (P : List Point) → (P ≡ [] → ⊥) → length (hullOf P) ≡ 0 → ⊥
-hull-some [] n e = n refl
-hull-some (p ∷ P) n e = none-there (hullOf (p ∷ P)) (hull-of (p ∷ P)) e
 
 same-disk : (P : List Point) → (P ≡ [] → ⊥) → diskOf (hullOf P) ≡ diskOf P
 same-disk [] n = absurd (n refl)

@@ -1,6 +1,6 @@
 -- Each public call goes by its row of rules (specs/Rules.antt).
 --
---   loader, sheet, engine, radius, preview, writer, reader, append, through, traced, hull : the calls
+--   loader, sheet, engine, radius, preview, writer, reader, append, through, traced, hull, stretch : the calls
 use mathlib.Core.Path.{_≡_, refl, sym, ap, ap₂, _∙_, subst}
 use mathlib.Core.Logic.{inl, inr}
 use mathlib.Core.Bool.{Bool, true, false, not, true≢false}
@@ -40,6 +40,9 @@ use Rattle.traced_points.specs.Traced.{tolerated, fault, firstFault, tracedOf}
 use Rattle.hull.specs.Chains.{hullOf}
 use Rattle.hull_points.specs.Reducing.{reduceOf}
 use Rattle.hull_points.proofs.Answers.{refused-answer, given-answer}
+use Rattle.stretches.specs.Widest.{widestOf}
+use Rattle.widest_stretch.specs.Stretching.{stretchOf}
+use Rattle.widest_stretch.proofs.Answers as stretching
 use Rattle.validity.specs.Valid.{validIn, valid}
 use Rattle.validity.proofs.ValidLaws.{valid-points, counted}
 use Rattle.belonging.specs.Belonging.{belongs, Belong}
@@ -128,6 +131,10 @@ engine l =
 pub hull : (l : List ℤ) → GoesBy (engineRow l) (reduceOf l)
 hull l =
     row-through (encloseOf l) (reduceOf l) (engine l) (λ e h. (length (hullOf (points l)), given-answer l h)) (λ k h. refused-answer l h)
+
+pub stretch : (l : List ℤ) → GoesBy (engineRow l) (stretchOf l)
+stretch l =
+    row-through (encloseOf l) (stretchOf l) (engine l) (λ e h. (widestOf (points l), stretching.given-answer l h)) (λ k h. stretching.refused-answer l h)
 
 -- the engine's checks, the chosen points in the list, and a disk that fits
 pub through : (l : List ℤ) (c : Chosen) → GoesBy (throughRow l c) (throughOf l c)

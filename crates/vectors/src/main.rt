@@ -135,6 +135,7 @@ fn run_case(call: u8, bytes: &[u8]) {
         b'C' => chosen_cases::run_chosen(bytes),
         b'T' => traced_cases::run_traced(bytes),
         b'H' => hull_cases::run_hull(bytes),
+        b'X' => stretch_cases::run_stretch(bytes),
         b'A' => list_cases::run_append(bytes),
         b'S' => run_sheet(bytes),
         b'P' => run_part(bytes),

@@ -9,6 +9,7 @@ ghost use Rattle.chosen_points.specs.declared.Chosen.the-variants.{Two};
 ghost use Rattle.chosen_points.specs.Chosen.{throughOf};
 ghost use Rattle.traced_points.specs.Traced.{tracedOf};
 ghost use Rattle.hull_points.specs.Reducing as hull;
+ghost use Rattle.widest_stretch.specs.Stretching.{stretchOf};
 ghost use Rattle.radius.specs.Radius.{radiusOf};
 ghost use Rattle.record_writer.specs.Writing as writer;
 ghost use Rattle.record_reader.specs.Reading.{readOf};
@@ -21,6 +22,7 @@ ghost use Rattle.c_append.specs.Kind.{pointOf};
 ghost use Rattle.c_glyph.specs.Answer.{glyphAnswer};
 ghost use Rattle.c_disk.specs.Answer.{diskAnswer};
 ghost use Rattle.c_through.specs.Answer.{throughAnswer};
+ghost use Rattle.c_stretch.specs.Answer.{stretchAnswer};
 ghost use Rattle.c_radius.specs.Answer.{radiusAnswer};
 ghost use Rattle.c_preview.specs.Answer.{previewAnswer};
 ghost use Rattle.c_read.specs.Answer.{recordAnswer};
@@ -32,6 +34,7 @@ use c_load::LoadAnswer;
 use c_preview::PreviewAnswer;
 use c_radius::RadiusAnswer;
 use c_read::RecordAnswer;
+use c_stretch::StretchAnswer;
 use c_through::ThroughAnswer;
 use c_types::Support;
 use geometry::Disk;
@@ -94,6 +97,14 @@ pub extern "C" fn volkhidar_reduce_to_hull(list: &mut [i16]) -> LoadAnswer
     ensures { λ _. ⌜ now (list .exit) ≡ hull.listAfter (now (list .entry)) ⌝ }
 {
     c_hull::reduce_to_hull(list)
+}
+
+#[no_mangle]
+pub extern "C" fn volkhidar_widest_stretch(list: &[i16]) -> StretchAnswer
+    ensures { λ r. ⌜ r ≡ stretchAnswer (stretchOf (now (list .entry))) ⌝ }
+    ensures { λ _. ⌜ now (list .exit) ≡ now (list .entry) ⌝ }
+{
+    c_stretch::widest_stretch(list)
 }
 
 #[no_mangle]

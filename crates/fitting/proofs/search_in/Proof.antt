@@ -1,26 +1,19 @@
 -- `fitting::search_in` meets its contract: the front of the room is the list.
-use mathlib.Core.Path.{_≡_, refl, sym, ap, subst, _∙_}
-use mathlib.Core.List.{List, _++_}
-use Prim.Native.Nat.{_+_}
+use mathlib.Core.Path.{_≡_, sym, ap, subst, _∙_}
+use mathlib.Core.List.{List}
 use borrow.Author.Needs.{needs}
 use lib.IntN.{ℤ}
-use lib.ListN.{length, take, drop}
-use lib.Seq.{paste, take-length, take-at}
+use lib.ListN.{length, take}
 use Rattle.geometry.specs.Points.{points}
+use Rattle.point_lists.proofs.Copied.{copied-front}
 use Rattle.welzl.specs.WholeList.{AllGiven}
 use Rattle.fixed_points.specs.Boundary.{members}
 use Rattle.fitting.specs.Decides.{Decides}
 use Rattle.fitting.proofs.search_in.Statement.{statement}
 use Rattle.fitting.proofs.search_in.Tie as tie
 
--- a copy of the list at the front of another
-pasted : (l room : List ℤ) → take (length l) (paste room 0 l (length l)) ≡ l
-pasted l room =
-    let rest = drop (0 + length l) room in
-    ap (λ (m : List ℤ). take (length l) (m ++ rest)) (take-length l) ∙ take-at l rest (length l) refl
-
 copied : (c : tie.After-copy-front) → take (length (c .before .before .args .list .now)) (c .copy-front .last .1 .1 .0) ≡ c .before .before .args .list .now
-copied c = let s = c .before .before in ap (take (length (s .args .list .now))) (c .copy-front .ensures) ∙ pasted (s .args .list .now) (s .args .room .now)
+copied c = let s = c .before .before in ap (take (length (s .args .list .now))) (c .copy-front .ensures) ∙ copied-front (s .args .list .now) (s .args .room .now)
 
 copy-front-requires : tie.Need-copy-front-requires
 copy-front-requires c κs = search needs
