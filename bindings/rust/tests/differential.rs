@@ -3,6 +3,7 @@
 
 mod belonging;
 mod hull;
+mod point_lists;
 mod records;
 
 use reference::chosen;
