@@ -18,6 +18,8 @@
 namespace by_hand {
 
 using bench::Disk;
+using bench::is_before;
+using bench::is_same;
 using bench::Point;
 using bench::Wide;
 
@@ -130,8 +132,8 @@ inline Support first_support(const Point* list, size_t n, const Relative& rel, c
     for (size_t i = 0; i < n; i++) {
         if (side(rel, list[i]) == 0) on.push_back(list[i]);
     }
-    std::sort(on.begin(), on.end(), [](Point a, Point b) { return a.x != b.x ? a.x < b.x : a.y < b.y; });
-    on.erase(std::unique(on.begin(), on.end(), [](Point a, Point b) { return a.x == b.x && a.y == b.y; }), on.end());
+    std::sort(on.begin(), on.end(), is_before);
+    on.erase(std::unique(on.begin(), on.end(), is_same), on.end());
     if (d.s == 0) return {1, {on[0], on[0], on[0]}};
     size_t m = on.size();
     for (size_t i = 0; i < m; i++)

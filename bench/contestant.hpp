@@ -11,6 +11,11 @@ struct Point {
     int16_t x, y;
 };
 
+// Rising order: by x, then y.
+inline constexpr auto is_before = [](Point p, Point q) { return p.x != q.x ? p.x < q.x : p.y < q.y; };
+
+inline constexpr auto is_same = [](Point p, Point q) { return p.x == q.x && p.y == q.y; };
+
 using List = std::vector<Point>;
 
 using Wide = unsigned __int128;

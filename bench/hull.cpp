@@ -25,7 +25,7 @@ struct Size {
 constexpr Size SIZES[] = {{10, 1000}, {100, 500}, {300, 300}, {1000, 200}, {4096, 50}};
 
 bool is_same(const List& a, const List& b) {
-    return std::equal(a.begin(), a.end(), b.begin(), b.end(), [](Point p, Point q) { return p.x == q.x && p.y == q.y; });
+    return std::equal(a.begin(), a.end(), b.begin(), b.end(), bench::is_same);
 }
 
 // The corners of the hull by hand.

@@ -16,9 +16,10 @@ struct Reduced {
     size_t count;
 };
 
-inline bool turns_left(Point a, Point b, Point c) {
-    return (b.x - a.x) * (c.y - a.y) - (b.y - a.y) * (c.x - a.x) > 0;
-}
+// Twice the area of the triangle: above 0 where the way from a over b to c turns left, 0 where the three are in a row.
+inline int turn(Point a, Point b, Point c) { return (b.x - a.x) * (c.y - a.y) - (b.y - a.y) * (c.x - a.x); }
+
+inline bool turns_left(Point a, Point b, Point c) { return turn(a, b, c) > 0; }
 
 // A chain of strict left turns, from the point `first` of it on.
 struct Chain {
@@ -46,8 +47,8 @@ inline Reduced put_in_front(const Chain& chain, Point* list, size_t n) {
 inline Reduced hull_by_sorting(Point* list, size_t n, std::vector<Point>& scratch) {
     int refusal = refusal_of(list, n);
     if (refusal) return {refusal, 0};
-    std::sort(list, list + n, [](Point a, Point b) { return a.x != b.x ? a.x < b.x : a.y < b.y; });
-    size_t m = size_t(std::unique(list, list + n, [](Point a, Point b) { return a.x == b.x && a.y == b.y; }) - list);
+    std::sort(list, list + n, is_before);
+    size_t m = size_t(std::unique(list, list + n, is_same) - list);
     scratch.resize(std::max(scratch.size(), 2 * m));
     Chain chain{scratch.data(), 0, 0};
     for (size_t i = 0; i < m; i++) chain.add(list[i]);
@@ -84,10 +85,8 @@ struct Columns {
     }
 };
 
-// No sort: a chain along the lowest points of the columns and back along the highest.
-inline Reduced hull_by_columns(Point* list, size_t n, std::vector<Point>& scratch) {
-    int refusal = refusal_of(list, n);
-    if (refusal) return {refusal, 0};
+// No sort: a chain along the lowest points of the columns and back along the highest. The list is only read; it has a point.
+inline Chain chain_by_columns(const Point* list, size_t n, std::vector<Point>& scratch) {
     Columns columns(list, n);
     int16_t at[Columns::WIDTH];
     size_t m = columns.gather(at);
@@ -104,7 +103,13 @@ inline Reduced hull_by_columns(Point* list, size_t n, std::vector<Point>& scratc
     // Back at the point that it began with, where that column has only one.
     if (m > 1) chain.add(top);
     if (m > 1 && columns.high[left] == columns.low[left]) chain.size--;
-    return put_in_front(chain, list, n);
+    return chain;
+}
+
+inline Reduced hull_by_columns(Point* list, size_t n, std::vector<Point>& scratch) {
+    int refusal = refusal_of(list, n);
+    if (refusal) return {refusal, 0};
+    return put_in_front(chain_by_columns(list, n, scratch), list, n);
 }
 
 }  // namespace by_hand

@@ -29,8 +29,6 @@ struct Choice {
     Point a, b;
 };
 
-bool is_same(Point p, Point q) { return p.x == q.x && p.y == q.y; }
-
 // The least point is a corner of the hull, and so is the highest; the one nearest to the middle is as a rule inside.
 enum class How { Least, Support, TwoOfSupport, LeastAndHighest, Middle, AnyTwo };
 
@@ -49,7 +47,7 @@ const char* name_of(How how) {
 }
 
 Choice choose(How how, const List& list, Box box) {
-    auto least = *std::min_element(list.begin(), list.end(), [](Point p, Point q) { return p.x != q.x ? p.x < q.x : p.y < q.y; });
+    auto least = *std::min_element(list.begin(), list.end(), is_before);
     auto highest = *std::max_element(list.begin(), list.end(), [](Point p, Point q) { return p.y != q.y ? p.y < q.y : p.x < q.x; });
     auto nearest = *std::min_element(list.begin(), list.end(), [&](Point p, Point q) { return from_middle(p, box) < from_middle(q, box); });
     List copy = list;

@@ -126,6 +126,12 @@ typedef volkhidar_load_answer volkhidar_hull_answer;
 
 typedef struct {
     uint64_t refusal;
+    volkhidar_point a, b;
+    uint64_t w;
+} volkhidar_stretch_answer;
+
+typedef struct {
+    uint64_t refusal;
     uint64_t start, length;
 } volkhidar_glyph_answer;
 
@@ -221,6 +227,15 @@ volkhidar_traced_answer volkhidar_smallest_disk_of_traced(const int16_t *list, s
  * Refusals, in this order: 9 for an odd length, 5, 4, 3; the list is then unchanged.
  */
 volkhidar_hull_answer volkhidar_reduce_to_hull(int16_t *list, size_t list_length);
+
+/*
+ * The widest stretch of `list`, x and y by turns: the two of its points that are farthest apart, a before b in rising order (x, then y),
+ * and w, the square of their distance, at most 8,388,608. Among pairs as far apart, each in rising order, they are the least, compared
+ * point by point. A lone point, repeated or not, is given twice with w 0. The list is only read. With e and s of volkhidar_smallest_disk
+ * for the same list, w e^2 is at least 3 s and at most 4 s (Jung's bound); w e^2 may need more than 64 bits, as s may.
+ * Refusals, in this order: 9 for an odd length, 5, 4, 3.
+ */
+volkhidar_stretch_answer volkhidar_widest_stretch(const int16_t *list, size_t list_length);
 
 /*
  * The radius to cut with, a whole number: the least R with R^2 e^2 greater than s. The cut, the circle of radius R about the disk's

@@ -8,7 +8,7 @@ namespace bench {
 
 // The same corners in the same direction, from the least (x, then y) on.
 inline List from_least(List hull) {
-    auto least = std::min_element(hull.begin(), hull.end(), [](Point a, Point b) { return a.x != b.x ? a.x < b.x : a.y < b.y; });
+    auto least = std::min_element(hull.begin(), hull.end(), is_before);
     std::rotate(hull.begin(), least, hull.end());
     return hull;
 }

@@ -1,8 +1,8 @@
 /*
  * The way of a letter through the library: a description is read, its smallest disk worked out, and a record written and read back.
  * Then the same letter from a drawing program's own values, another letter's disk turned against a stop, a hand-traced letter, a
- * scanned outline that is reduced to its hull, a damaged record, a disk whose s is above 2^64, and a record of 45 bytes that is written
- * again with 53.
+ * scanned outline that is reduced to its hull, a letter's widest stretch, a damaged record, a disk whose s is above 2^64, and a record of
+ * 45 bytes that is written again with 53.
  *
  *   bindings/c/run      builds and runs it on letter F of the papers
  *   bindings/c/run -    reads a description from standard input
@@ -150,6 +150,15 @@ static int work_out_hull(void) {
     return 0;
 }
 
+/* Letter D of the papers, a square: its diagonals are as long, and the ends of the one from (0, 0) are the least pair. */
+static int work_out_stretch(void) {
+    const int16_t list[] = {0, 0, 10, 0, 0, 10, 10, 10};
+    volkhidar_stretch_answer answer = volkhidar_widest_stretch(list, sizeof list / sizeof list[0]);
+    if (answer.refusal) return refused(answer.refusal);
+    printf("stretch %d %d %d %d %" PRIu64 "\n", answer.a.x, answer.a.y, answer.b.x, answer.b.y, answer.w);
+    return 0;
+}
+
 /* Letter F's record with (1, 3) in place of (2, 3): a valid record still, but its points do not belong to its disk. */
 static int read_damaged_record(void) {
     uint8_t record[VOLKHIDAR_RECORD_LENGTH];
@@ -181,6 +190,6 @@ int main(int argc, char **argv) {
         return work_out(text, fread(text, 1, sizeof text, stdin));
     }
     return work_out((const uint8_t *)letter_f, sizeof letter_f - 1) || work_out_drawing() || work_out_against_stop() ||
-           work_out_traced() || work_out_hull() || read_damaged_record() ||
+           work_out_traced() || work_out_hull() || work_out_stretch() || read_damaged_record() ||
            work_out((const uint8_t *)wide_letter, sizeof wide_letter - 1) || write_old_record_again();
 }

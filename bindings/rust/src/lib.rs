@@ -30,7 +30,7 @@ mod shapes;
 
 pub use raw::Point;
 pub use refusal::Refusal;
-pub use shapes::{Chosen, Disk, DrawnPoint, Enclosed, Preview, SupportSet};
+pub use shapes::{Chosen, Disk, DrawnPoint, Enclosed, Preview, Stretch, SupportSet};
 
 use refusal::checked;
 use std::ops::Range;
@@ -256,6 +256,37 @@ pub fn reduce_to_hull(list: &mut [i16]) -> Result<usize, Refusal> {
     let answer = unsafe { raw::volkhidar_reduce_to_hull(list.as_mut_ptr(), list.len()) };
     checked(answer.refusal)?;
     Ok(answer.count as usize)
+}
+
+/// The widest stretch of the list, x and y by turns: the two of its points that are farthest apart, in rising order, and the square w of
+/// their distance. Among pairs as far apart, each in rising order, they are the least, compared point by point. A lone point, repeated
+/// or not, is given twice with w 0. The list is only read. With e and s of [`smallest_disk`] for the same list, w e² is at least 3s and at
+/// most 4s (Jung's bound).
+///
+/// Refuses, in this order: [`Refusal::OddLength`], [`Refusal::NoPoint`], [`Refusal::TooMany`], [`Refusal::OutsideBox`].
+///
+/// ```
+/// use volkhidar::{smallest_disk, widest_stretch, Point, Refusal, Stretch};
+///
+/// // the two diagonals are as long
+/// let square = [10, 0, 0, 10, 10, 10, 0, 0];
+/// assert_eq!(widest_stretch(&square), Ok(Stretch { a: Point { x: 0, y: 0 }, b: Point { x: 10, y: 10 }, w: 200 }));
+///
+/// let mut letter = [0, 0, 4, 0, 2, 3];
+/// let w = u128::from(widest_stretch(&letter)?.w);
+/// let disk = smallest_disk(&mut letter)?.disk;
+/// assert_eq!((w, disk.e, disk.s), (16, 6, 169));
+/// assert!((3 * disk.s..=4 * disk.s).contains(&(w * u128::from(disk.e).pow(2))));
+///
+/// let lone = Point { x: 7, y: 7 };
+/// assert_eq!(widest_stretch(&[7, 7, 7, 7]), Ok(Stretch { a: lone, b: lone, w: 0 }));
+/// assert_eq!(widest_stretch(&[]), Err(Refusal::NoPoint));
+/// # Ok::<(), Refusal>(())
+/// ```
+pub fn widest_stretch(list: &[i16]) -> Result<Stretch, Refusal> {
+    let answer = unsafe { raw::volkhidar_widest_stretch(list.as_ptr(), list.len()) };
+    checked(answer.refusal)?;
+    Ok(Stretch { a: answer.a, b: answer.b, w: answer.w })
 }
 
 /// The radius to cut with: the least whole number R with R²e² greater than s. The circle of radius R about the disk's centre keeps off

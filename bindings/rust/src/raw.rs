@@ -69,6 +69,14 @@ pub struct ThroughAnswer {
 }
 
 #[repr(C)]
+pub struct StretchAnswer {
+    pub refusal: u64,
+    pub a: Point,
+    pub b: Point,
+    pub w: u64,
+}
+
+#[repr(C)]
 pub struct RadiusAnswer {
     pub refusal: u64,
     pub radius: u64,
@@ -97,6 +105,7 @@ extern "C" {
     pub fn volkhidar_smallest_disk_through(list: *const i16, list_length: usize, first: Point, second: Point) -> ThroughAnswer;
     pub fn volkhidar_smallest_disk_of_traced(list: *const i16, list_length: usize) -> ThroughAnswer;
     pub fn volkhidar_reduce_to_hull(list: *mut i16, list_length: usize) -> LoadAnswer;
+    pub fn volkhidar_widest_stretch(list: *const i16, list_length: usize) -> StretchAnswer;
     pub fn volkhidar_whole_radius(disk: Disk, support: Support) -> RadiusAnswer;
     pub fn volkhidar_preview(disk: Disk, support: Support) -> PreviewAnswer;
     pub fn volkhidar_write_record(disk: Disk, support: Support, buffer: *mut u8, buffer_length: usize) -> u64;
@@ -231,6 +240,8 @@ mod tests {
             let mut list = vec![-1; length];
             let answer = unsafe { volkhidar_reduce_to_hull(list.as_mut_ptr(), list.len()) };
             assert_eq!((answer.refusal, answer.count), (refusal, 0));
+            let answer = unsafe { volkhidar_widest_stretch(list.as_ptr(), list.len()) };
+            assert_eq!((answer.refusal, answer.a, answer.b, answer.w), (refusal, ORIGIN, ORIGIN, 0));
         }
     }
 }

@@ -129,6 +129,16 @@ pub struct Enclosed {
     pub tests: u64,
 }
 
+/// What [`widest_stretch`](crate::widest_stretch) finds.
+#[derive(Clone, Copy, PartialEq, Eq, Hash, Debug)]
+pub struct Stretch {
+    /// The two points that are farthest apart, a before b in rising order.
+    pub a: Point,
+    pub b: Point,
+    /// The square of their distance, at most 8,388,608.
+    pub w: u64,
+}
+
 /// The centre and the whole radius as floats.
 #[derive(Clone, Copy, PartialEq, Debug)]
 pub struct Preview {

@@ -3,7 +3,9 @@
 
 mod belonging;
 mod hull;
+mod point_lists;
 mod records;
+mod stretch;
 
 use reference::chosen;
 use reference::damage;
@@ -29,8 +31,12 @@ fn disk_of(disk: Disk) -> ExpectedDisk {
     ExpectedDisk { x: disk.x.into(), y: disk.y.into(), e: disk.e.into(), s: disk.s }
 }
 
+fn point_of(point: Point) -> ExpectedPoint {
+    ExpectedPoint::new(point.x, point.y)
+}
+
 fn points(support: SupportSet) -> Vec<ExpectedPoint> {
-    support.points().iter().map(|p| ExpectedPoint::new(p.x, p.y)).collect()
+    support.points().into_iter().map(point_of).collect()
 }
 
 /// The disk and support set for our calls, where their types can hold them.
@@ -407,7 +413,7 @@ fn centres_far_outside_the_em_box() {
 fn assert_far_outside(list: [i16; 6], disk: Disk) {
     let [a, top, b] = [0, 2, 4].map(|at| Point { x: list[at], y: list[at + 1] });
     assert_eq!(smallest_disk_through(&list, Chosen::One(top)), Ok(disk));
-    compare_chosen(&list, chosen::Chosen::One(ExpectedPoint::new(top.x, top.y)), &format!("{disk:?}"));
+    compare_chosen(&list, chosen::Chosen::One(point_of(top)), &format!("{disk:?}"));
     for support in [SupportSet::One(top), SupportSet::Three(a, top, b)] {
         let mut buffer = [0xEE; RECORD_LENGTH];
         assert_eq!(whole_radius(disk, support), Err(Refusal::BadRecord));
@@ -544,6 +550,7 @@ fn fuzzed_bytes() {
         compare_traced(&small, &name);
         for list in [&list, &small] {
             let _ = hull::compare_hull(list, &name);
+            let _ = stretch::compare_stretch(list, &name);
         }
         if seed % 4 == 0 {
             compare_description(&any, 8_192, &name);

@@ -1,15 +1,12 @@
 //! Reduction to the hull, tried by its definition, against the reference's corners and by hand: nothing here works out a hull.
 
-use super::{compare_list, ours};
+use super::{compare_list, ours, point_lists};
 use reference::engine::{flat, points_of};
-use reference::geometry::{gcd, Point};
-use reference::limits::EM;
+use reference::geometry::Point;
 use reference::random::Random;
-use reference::{damage, hull, letters, lists};
+use reference::{hull, letters, lists};
 use std::collections::BTreeSet;
-use volkhidar::{
-    preview, reduce_to_hull, smallest_disk, whole_radius, write_record, Disk, Refusal, SupportSet, MOST_POINTS, RECORD_LENGTH,
-};
+use volkhidar::{preview, reduce_to_hull, smallest_disk, whole_radius, write_record, Disk, Refusal, SupportSet, RECORD_LENGTH};
 
 /// Above 0 where p is to the left of the way from a to b, below 0 where it is to the right, and 0 where the three are in a row.
 fn side(a: Point, b: Point, p: Point) -> i32 {
@@ -86,28 +83,18 @@ fn drawn_lists_reduced() {
 
 #[test]
 fn long_lists_reduced() {
-    for case in lists::long() {
+    for case in point_lists::long() {
         compare_hull(&flat(&case.points), &case.name).unwrap();
-    }
-    for (seed, kind) in (0..5).flat_map(|seed| lists::KINDS.map(|kind| (seed, kind))) {
-        let points = lists::draw(kind, MOST_POINTS, &mut Random::new(seed));
-        compare_hull(&flat(&points), &format!("{kind:?}, seed {seed}")).unwrap();
     }
 }
 
 #[test]
 fn damaged_lists_reduced() {
     let mut times = [0; 10];
-    for seed in 0..20_000 {
-        let list = damage::point_list(&mut Random::new(seed));
-        times[usize::from(compare_hull(&list, &format!("seed {seed}")).err().unwrap_or(0))] += 1;
+    for (list, name) in point_lists::damaged() {
+        times[usize::from(compare_hull(&list, &name).err().unwrap_or(0))] += 1;
     }
     assert!([0, 3, 5, 9].iter().all(|&number| times[number] > 100), "{times:?}");
-    for length in [0, 1, 2, 3, 8_191, 8_192, 8_193, 8_194, 8_195] {
-        for number in [7, -1, i16::MIN, i16::MAX] {
-            let _ = compare_hull(&vec![number; length], &format!("{length} times {number}"));
-        }
-    }
 }
 
 #[test]
@@ -148,32 +135,15 @@ fn hulls_by_hand() {
     }
 }
 
-/// The length comes before the points, and a fault of the last point counts as much as one of the first.
 #[test]
 fn lists_refused_by_hand() {
-    let cases: [(&[i16], u8); 11] = [
-        (&[-1; 8_195], 9),
-        (&[7; 1], 9),
-        (&[], 5),
-        (&[-1; 8_194], 4),
-        (&[7; 8_194], 4),
-        (&[-1; 8_192], 3),
-        (&[-1, 0], 3),
-        (&[2_049, 0], 3),
-        (&[0, -513], 3),
-        (&[9, 9, 5, 5, 7, 1, 0, 1_537], 3),
-        (&[i16::MIN, i16::MAX], 3),
-    ];
-    for (list, refusal) in cases {
-        let name = format!("{} numbers, {:?}", list.len(), &list[..list.len().min(8)]);
-        assert_eq!(compare_hull(list, &name), Err(refusal), "{name}");
-    }
+    point_lists::assert_refused(compare_hull);
 }
 
 /// Each row and column of them keeps at most its ends.
 #[test]
 fn every_point_of_a_square() {
-    let mut points: Vec<Point> = (0..64).flat_map(|x| (0..64).map(move |y| Point::new(x + 9, y - 30))).collect();
+    let mut points = point_lists::every_point_of_a_square();
     for seed in 0..5 {
         let mut list = flat(&points);
         assert_eq!(compare_hull(&list, &format!("shuffle {seed}")), Ok(4));
@@ -183,39 +153,13 @@ fn every_point_of_a_square() {
     }
 }
 
-/// A convex polygon, counterclockwise from its least corner: its sides are all (a, b) without a common divisor and with |a| + |b| at most
-/// 21, by their directions. With 22 it would be too large for the em box.
-fn polygon_of_many_corners() -> Vec<Point> {
-    let all = (0..=21_i16).flat_map(|a| (-21..=21_i16).map(move |b| (a, b)));
-    let is_side = |&(a, b): &(i16, i16)| a + b.abs() <= 21 && gcd(a.into(), b.into()) == 1 && (a, b) != (0, -1);
-    let mut sides: Vec<(i16, i16)> = all.filter(is_side).collect();
-    sides.sort_by(|&(a, b), &(c, d)| (b * c).cmp(&(a * d)));
-    let back: Vec<(i16, i16)> = sides.iter().map(|&(a, b)| (-a, -b)).collect();
-    let depth: i16 = sides.iter().map(|&(_, b)| b.min(0)).sum();
-    let mut at = Point::new(EM.left, EM.foot - depth);
-    let mut corners = Vec::new();
-    for (a, b) in [sides, back].concat() {
-        corners.push(at);
-        at = Point::new(at.x + a, at.y + b);
-    }
-    corners
-}
-
 /// They are all kept, among repeats and halfway points between any two.
 #[test]
 fn a_hull_of_many_corners() {
-    let corners = polygon_of_many_corners();
+    let corners = point_lists::polygon_of_many_corners();
     assert_eq!(corners.len(), 560);
     for seed in 0..10 {
-        let mut random = Random::new(seed);
-        let mut points = corners.clone();
-        while points.len() < MOST_POINTS {
-            let (a, b) = (random.pick(&corners), random.pick(&corners));
-            let is_halfway_whole = (a.x + b.x) % 2 == 0 && (a.y + b.y) % 2 == 0;
-            points.push(if is_halfway_whole { Point::new((a.x + b.x) / 2, (a.y + b.y) / 2) } else { a });
-        }
-        random.shuffle(&mut points);
-        let mut list = flat(&points);
+        let mut list = point_lists::corners_among_others(&corners, seed);
         assert_eq!(compare_hull(&list, &format!("seed {seed}")), Ok(corners.len()));
         assert_eq!(reduce_to_hull(&mut list), Ok(corners.len()));
         assert_eq!(points_of(&list[..2 * corners.len()]), corners, "seed {seed}");
