@@ -9,7 +9,7 @@ use Rattle.geometry.specs.declared.Point.{Point}
 use Rattle.geometry.specs.Points.{points, pointAt}
 use Rattle.stretches.specs.declared.Stretch.{Stretch}
 use Rattle.stretches.specs.Widest.{ordered, betterOf, bestFrom}
-use Rattle.farthest_points.proofs.Rows.{from-step, from-end}
+use Rattle.farthest_points.proofs.Rows.{inside-at, from-step, from-end}
 use Rattle.farthest_points.proofs.best_from.Statement.{statement}
 use Rattle.farthest_points.proofs.best_from.Tie as tie
 
@@ -20,16 +20,20 @@ abbrev μ-loop : tie.MeasureT-loop
 μ-loop list i n p found₀ j₀ found j = n - j
 
 point-at-requires : tie.Need-point-at-requires Inv-loop μ-loop
-point-at-requires c κs = c .pre
+point-at-requires c κs = c .pre .0
 
 loop-holds : tie.Need-loop-holds Inv-loop μ-loop
-loop-holds c = (omega (arith, c .before .pre), refl)
+loop-holds c = (omega (arith, c .before .pre .0), refl)
 
 point-at-requires-2 : tie.Need-point-at-requires-2 Inv-loop μ-loop
 point-at-requires-2 c κs = omega arith
 
 better-of-requires : tie.Need-better-of-requires Inv-loop μ-loop
-better-of-requires c κs = tt
+better-of-requires c κs =
+    let at = c .before .before in
+    let s = at .before .before in
+    let l = s .args .list .now in
+    (inside-at l (s .args .i) (at .before .point-at .ensures) (s .pre .1) (s .pre .0), inside-at l (at .loop .j) (c .point-at2 .ensures) (s .pre .1) (omega arith))
 
 add-j : tie.Need-add-j Inv-loop μ-loop
 add-j c = omega arith

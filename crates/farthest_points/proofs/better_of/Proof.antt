@@ -35,6 +35,9 @@ module _ (c : tie.After-is-ahead) where
 squared-distance-requires : tie.Need-squared-distance-requires
 squared-distance-requires c κs = search needs
 
+cast-w : tie.Need-cast-w
+cast-w c = search needs
+
 returns : tie.Need-returns
 returns c = let m = c .before .before in sym (better-narrower (s m) (t m) (omega (arith, width m, c .if1 .taken)))
 
@@ -65,6 +68,7 @@ better-of-spec =
     tie.close
     (tie.spec
     squared-distance-requires
+    cast-w
     returns
     stretch-between-requires
     returns-2

@@ -27,7 +27,7 @@ widest-first l h = let all = points-from 0 l h in
     ap (bestOf (ordered (pointAt l 0) (pointAt l 0))) all ∙ sym (ap widestOf all)
 
 point-at-requires : tie.Need-point-at-requires Inv-loop μ-loop
-point-at-requires c κs = c .pre
+point-at-requires c κs = c .pre .0
 
 stretch-between-requires : tie.Need-stretch-between-requires Inv-loop μ-loop
 stretch-between-requires c κs = apart-self (c .point-at .result)
@@ -37,10 +37,10 @@ loop-holds c =
     let l = c .before .before .args .list .now in
     let is : c .stretch-between .result ≡ ordered (pointAt l 0) (pointAt l 0) =
     c .stretch-between .ensures ∙ ap (λ (p : Point). ordered p p) (c .before .point-at .ensures) in
-    (omega arith, ap (λ (s : Stretch). bestOf s (points l)) is ∙ widest-first l (c .before .before .pre))
+    (omega arith, ap (λ (s : Stretch). bestOf s (points l)) is ∙ widest-first l (c .before .before .pre .0))
 
-best-from-requires : tie.Need-best-from-requires Inv-loop μ-loop
-best-from-requires c κs = omega arith
+best-if-far-requires : tie.Need-best-if-far-requires Inv-loop μ-loop
+best-if-far-requires c κs = (omega arith, c .before .before .before .before .pre .1)
 
 add-i : tie.Need-add-i Inv-loop μ-loop
 add-i c = omega arith
@@ -54,7 +54,7 @@ loop-again c =
     let l = at .before .before .before .args .list .now in
     let i = at .loop .i in
     let step = of-step l i (at .loop .found) (omega arith) in
-    (omega arith, ap (λ (s : Stretch). bestOf s (drop (i + 1) (points l))) (c .best-from .ensures) ∙ sym step ∙ at .loop .inv .1)
+    (omega arith, ap (λ (s : Stretch). bestOf s (drop (i + 1) (points l))) (c .best-if-far .ensures) ∙ sym step ∙ at .loop .inv .1)
 
 returns : tie.Need-returns Inv-loop μ-loop
 returns c =
@@ -71,7 +71,7 @@ widest-spec =
     point-at-requires
     stretch-between-requires
     loop-holds
-    best-from-requires
+    best-if-far-requires
     add-i
     loop-less
     loop-again

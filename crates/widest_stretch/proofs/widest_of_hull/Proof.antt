@@ -5,7 +5,7 @@ use native.Mathlib.Omega.{arith}
 use borrow.Author.Needs.{needs}
 use lib.ListN.{length}
 use lib.Seq.{length-take-le}
-use Rattle.widest_stretch.proofs.Kept.{kept-some, kept-room, kept-widest}
+use Rattle.widest_stretch.proofs.Kept.{kept-some, kept-room, kept-boxed, kept-widest}
 use Rattle.widest_stretch.proofs.widest_of_hull.Statement.{statement}
 use Rattle.widest_stretch.proofs.widest_of_hull.Tie as tie
 
@@ -29,7 +29,11 @@ widest-requires : tie.Need-widest-requires
 widest-requires c κs =
     let m = c .before .before in
     let s = m .before .before in
-    omega (arith, length-take-le (2 * m .reduce .result) (m .reduce .last .0) (fits m), kept-some (s .args .list .now) (s .pre .some), m .reduce .ensures .0)
+    let (size, left) = m .reduce .ensures in
+    let l = s .args .list .now in (
+      omega (arith, length-take-le (2 * m .reduce .result) (m .reduce .last .0) (fits m), kept-some l (s .pre .some), size),
+      kept-boxed l (s .pre .some) (m .reduce .result) (m .reduce .last .0) size left (s .pre .boxed),
+    )
 
 same-length : tie.Need-same-length
 same-length c = search needs
@@ -38,7 +42,8 @@ returns : tie.Need-returns
 returns c =
     let m = c .before .before .before in
     let s = m .before .before in
-    c .widest .ensures ∙ kept-widest (s .args .list .now) (s .pre .some) (m .reduce .result) (m .reduce .last .0) (m .reduce .ensures .0) (m .reduce .ensures .1)
+    let (size, left) = m .reduce .ensures in
+    c .widest .ensures ∙ kept-widest (s .args .list .now) (s .pre .some) (m .reduce .result) (m .reduce .last .0) size left
 
 pub widest-of-hull-spec : {M : Type 1} → statement M
 widest-of-hull-spec =

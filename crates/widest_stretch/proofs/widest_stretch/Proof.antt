@@ -41,7 +41,7 @@ enum-told : tie.Need-enum-told
 enum-told c = search needs
 
 widest-requires : tie.Need-widest-requires
-widest-requires c κs = some (c .before)
+widest-requires c κs = (some (c .before), rules (c .before) .boxed)
 
 returns : tie.Need-returns
 returns c = let m = c .before .before in (ap given (c .widest .ensures) ∙ sym (given-answer (entry m) (passed m)), refl)

@@ -1,0 +1,2 @@
+-- of inner contracts
+pub mod Reach
