@@ -1,5 +1,6 @@
-//! Drawn descriptions, sheets and records, many of them damaged, each by its seed.
+//! Drawn descriptions, point lists, sheets and records, many of them damaged, each by its seed.
 
+pub(crate) mod point_lists;
 mod records;
 
 use crate::drawing::DrawnPoint;
@@ -11,6 +12,7 @@ use crate::lists::{self, Kind};
 use crate::random::Random;
 use crate::sheet;
 
+pub use point_lists::{at_times_faulty, point_list};
 pub use records::{any_record, any_writer, record, single_faults, writer};
 
 // ---- descriptions
@@ -109,22 +111,6 @@ fn damage_text(text: &mut Vec<u8>, random: &mut Random) {
         3 => text.truncate(at),
         _ => drop(text.splice(at..at, random.pick(&LINES).bytes())),
     }
-}
-
-// ---- point lists
-
-/// A short list of numbers, x and y by turns: in half of the cases of odd length, empty or with a point outside the em box.
-pub fn point_list(random: &mut Random) -> Vec<i16> {
-    let n = 1 + random.below(9);
-    let mut list = engine::flat(&lists::draw(random.pick(&lists::KINDS), n, random));
-    let at = random.below(list.len());
-    match random.below(8) {
-        0 => list.truncate(at),
-        1 => list.push(random.word() as i16),
-        2 | 3 => list[at] = random.pick(&[EM.left - 1, EM.right + 1, EM.foot - 1, EM.top + 1, i16::MIN, i16::MAX]),
-        _ => (),
-    }
-    list
 }
 
 // ---- points from a drawing program
@@ -267,12 +253,6 @@ mod tests {
     fn descriptions_are_refused_for_each_reason() {
         let times = seen(5_000, |random| points_of(&description(random)).err());
         assert!([0, 2, 3, 5].iter().all(|&number| times[number] > 150), "{times:?}");
-    }
-
-    #[test]
-    fn point_lists_are_refused_for_each_reason() {
-        let times = seen(5_000, |random| engine::solve(&mut point_list(random)).err());
-        assert!([0, 3, 5, 9].iter().all(|&number| times[number] > 50), "{times:?}");
     }
 
     #[test]

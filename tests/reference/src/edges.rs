@@ -12,6 +12,7 @@ mod lists;
 mod radii;
 mod records;
 mod sheets;
+mod stretch;
 mod traced;
 mod two_fixed;
 
@@ -22,6 +23,7 @@ pub use hull::reductions;
 pub use lists::solvings;
 pub use records::{readings, writings};
 pub use sheets::{parts, sheets};
+pub use stretch::stretches;
 pub use traced::tracings;
 pub use two_fixed::fixings;
 
@@ -46,6 +48,7 @@ mod tests {
     use crate::procedure::{self, Cover};
     use crate::record::LONG;
     use crate::refusal::Refusal;
+    use crate::stretch::{widest_stretch, Stretch};
     use crate::traced::smallest_disk_of_traced;
     use crate::{description, drawing, engine, engine::flat, figures, record, sheet};
 
@@ -114,6 +117,14 @@ mod tests {
                 [&kept[..], &vec![0; given.len() - kept.len()]].concat()
             });
             assert_eq!(list, expected, "{says}: {shown:?}");
+        }
+    }
+
+    #[test]
+    fn the_call_for_the_widest_stretch_keeps_to_them() {
+        for Edge { says, given, gives } in stretches() {
+            let answer = widest_stretch(&given).map(|Stretch { a, b, w }| ((a.x, a.y), (b.x, b.y), w)).map_err(Refusal::number);
+            assert_eq!(answer, gives, "{says}: {} numbers, {:?}", given.len(), &given[..given.len().min(30)]);
         }
     }
 

@@ -15,7 +15,8 @@ use crate::support::distinct;
 mod drawn;
 mod polygons;
 
-pub use drawn::{draw, long};
+pub use drawn::{draw, draw_points, long, nudge_one, Draw};
+pub use polygons::{full_polygon, on_side, reordered};
 
 /// Lists of up to so many different points are reduced by definition too.
 const SHORT: usize = 30;
@@ -91,6 +92,7 @@ fn is_in_triangle(p: Point, [a, b, c]: [Point; 3]) -> bool {
 #[cfg(test)]
 mod tests {
     use super::*;
+    use crate::damage::point_lists::tests::accepted_lists;
     use crate::geometry::Disk;
     use crate::lists::{self, Kind};
     use crate::random::Random;
@@ -99,10 +101,8 @@ mod tests {
     use crate::support::{first_support_set, SupportSet};
     use crate::{engine, figures, record};
 
-    /// The points of drawn lists that are accepted.
     fn drawn_lists(seed: u64, count: usize, longest: usize) -> Vec<Vec<Point>> {
-        let mut random = Random::new(seed);
-        (0..count).filter_map(|_| accepted_points(&draw(longest, &mut random)).ok()).collect()
+        accepted_lists(draw, seed, count, longest)
     }
 
     /// Those of each kind, short and long, and those of 4,096 points.

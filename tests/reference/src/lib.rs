@@ -15,6 +15,7 @@
 //! | [`chosen`] | the smallest disk with one or two points of the list on its boundary (document 02, item 6), and drawn lists for it |
 //! | [`traced`] | the smallest disk of points known only to within a tolerance (document 02, item 7), and drawn lists for it |
 //! | [`hull`] | a list reduced to the corners of its convex hull (document 02, item 8), and drawn lists for it |
+//! | [`stretch`] | the two points farthest apart (document 02, item 11), and drawn lists for it |
 //! | [`engine`] | the disk engine: checks, then the four answers |
 //! | [`description`] | the loader |
 //! | [`drawing`] | points from a drawing program (document 02, item 2) |
@@ -54,6 +55,7 @@ pub mod refusal;
 pub mod sheet;
 pub mod smallest;
 pub mod stored;
+pub mod stretch;
 pub mod support;
 pub mod traced;
 pub mod two_fixed;

@@ -6,7 +6,6 @@ use crate::figures;
 use crate::geometry::Point;
 use crate::limits::LIST_LENGTH;
 use crate::refusal::Refusal;
-use crate::support::SupportSet;
 
 /// The listing's output, to the byte.
 pub fn listing(text: &[u8]) -> String {
@@ -41,8 +40,8 @@ pub fn lines(answer: &Answer) -> String {
 }
 
 /// Each number with a space before it.
-pub fn coordinates(support: &SupportSet) -> String {
-    support.iter().map(|p| format!(" {} {}", p.x, p.y)).collect()
+pub fn coordinates(points: &[Point]) -> String {
+    points.iter().map(|p| format!(" {} {}", p.x, p.y)).collect()
 }
 
 pub fn refused(refusal: Refusal) -> String {

@@ -153,7 +153,7 @@ pub fn point_in_box((x, y): (i64, i64)) -> Option<Point> {
 }
 
 /// Squared radii with many points on their circles: products of primes that are sums of two squares.
-const RICH: [i64; 18] =
+pub const RICH: [i64; 18] =
     [1, 5, 25, 65, 85, 125, 325, 425, 725, 1_105, 5_525, 8_125, 27_625, 71_825, 138_125, 160_225, 801_125, 1_047_625];
 
 fn circle(em: &Limits, n: usize, random: &mut Random) -> Vec<Point> {
@@ -171,7 +171,7 @@ fn circle(em: &Limits, n: usize, random: &mut Random) -> Vec<Point> {
 }
 
 /// All lattice points of a circle about a lattice point or the middle of a unit square, as far as they lie in the box.
-fn rich_circle(em: &Limits, random: &mut Random) -> Vec<Point> {
+pub fn rich_circle(em: &Limits, random: &mut Random) -> Vec<Point> {
     let half = random.between(0, 1);
     let fitting = RICH.iter().filter(|&&square| square <= reach_of(em).pow(2)).count();
     let square = random.pick(&RICH[..fitting]) * if half == 1 { 2 } else { 4 };
@@ -187,11 +187,15 @@ fn rich_circle(em: &Limits, random: &mut Random) -> Vec<Point> {
 
 /// The lattice points at doubled distance dx from the doubled centre (x, y) on the circle of doubled squared radius `square`.
 fn on_column(x: i64, y: i64, dx: i64, square: i64) -> Vec<Point> {
-    let rest = square - dx * dx;
-    let dy = (rest as u64).isqrt() as i64;
-    let is_lattice = dy * dy == rest && (x + dx) % 2 == 0 && (y + dy) % 2 == 0;
-    let ends = [dy, -dy].into_iter().filter(|_| is_lattice);
+    let is_lattice = |dy: &i64| (x + dx) % 2 == 0 && (y + dy) % 2 == 0;
+    let ends = whole_root(square - dx * dx).filter(is_lattice).into_iter().flat_map(|dy| [dy, -dy]);
     ends.filter_map(|dy| point_in_box(((x + dx) / 2, (y + dy) / 2))).collect()
+}
+
+/// The number from 0 on whose square this is, if there is one.
+pub fn whole_root(square: i64) -> Option<i64> {
+    let root = (square as u64).isqrt() as i64;
+    (root * root == square).then_some(root)
 }
 
 fn middle(points: &[Point]) -> Point {
@@ -302,8 +306,12 @@ fn wide(em: &Limits, n: usize, random: &mut Random) -> Vec<Point> {
     places.extend((3..n).map(|_| (random.coordinate(side / 4, 3 * (side / 4)), random.coordinate(side / 4, 3 * (side / 4)))));
     random.shuffle(&mut places);
     let turns = random.below(4);
-    let turned = |(x, y): (i16, i16)| (0..turns).fold((x, y), |(x, y), _| (side - y, x));
-    places.into_iter().map(turned).map(|(x, y)| Point::new(em.left + x, em.foot + y)).collect()
+    places.into_iter().map(|(x, y)| turned(em, Point::new(em.left + x, em.foot + y), turns)).collect()
+}
+
+/// The point after so many quarter turns of the em box about its middle.
+pub fn turned(em: &Limits, p: Point, turns: usize) -> Point {
+    (0..turns).fold(p, |p, _| Point::new(em.right - (p.y - em.foot), em.foot + (p.x - em.left)))
 }
 
 #[cfg(test)]

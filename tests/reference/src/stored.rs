@@ -1,5 +1,7 @@
 //! The cases that the repository keeps, and further ones by their seed.
 
+mod hull_and_stretch;
+
 use crate::chosen::{self, Chosen};
 use crate::damage;
 use crate::description::describe;
@@ -12,12 +14,14 @@ use crate::letters;
 use crate::limits::{EM, LIST_LENGTH, MOST_POINTS, MOST_TOLERANCE, MOST_TRACED};
 use crate::lists::{self, Kind, KINDS};
 use crate::random::Random;
+use crate::stretch;
 use crate::traced::{self, TracedPoint};
 use crate::two_fixed;
 use crate::vectors::{
-    append, chosen, engine, fixed, from_description, hull, loader, open_sheet, part, reader, traced, writer, Vector,
+    append, chosen, engine, fixed, from_description, hull, loader, open_sheet, part, reader, stretch, traced, writer, Vector,
 };
 use crate::worst;
+use hull_and_stretch::{for_hull, for_stretch, stored_for_hull, stored_for_stretch};
 
 /// The cases that the repository keeps.
 pub fn stored() -> Vec<Vector> {
@@ -35,6 +39,8 @@ pub fn stored() -> Vec<Vector> {
     vectors.extend(edges::reductions().into_iter().map(|edge| hull(edge.given)));
     vectors.extend(stored_for_hull().into_iter().chain(hull::long()).map(hull));
     vectors.extend(stored_records());
+    vectors.extend(edges::stretches().iter().map(|edge| stretch(&edge.given)));
+    vectors.extend(stored_for_stretch().iter().chain(&stretch::long()).map(|list| stretch(list)));
     vectors
 }
 
@@ -53,6 +59,7 @@ pub fn drawn(seed: u64, count: usize) -> Vec<Vector> {
     vectors.extend(drawn_traced(&mut random, count).iter().map(|list| traced(list)));
     vectors.extend(for_hull(&mut random, count).into_iter().map(hull));
     vectors.extend(records(&mut random, count));
+    vectors.extend(for_stretch(&mut random, count).iter().map(|list| stretch(list)));
     vectors
 }
 
@@ -153,16 +160,6 @@ fn long_traced() -> [Vec<i16>; 4] {
     })
 }
 
-/// `count` lists to be reduced to their hulls: three in four of up to 60 points, the others of up to 300, 600 and 1,100.
-fn for_hull(random: &mut Random, count: usize) -> Vec<Vec<i16>> {
-    let lengths = [4, 4, 12, 12, 12, 40, 40, 40, 40, 60, 60, 60, 60, 60, 60, 300, 600, 600, 600, 1_100];
-    (0..count).map(|_| hull::draw(random.pick(&lengths), random)).collect()
-}
-
-fn stored_for_hull() -> Vec<Vec<i16>> {
-    for_hull(&mut Random::new(9), 1_000)
-}
-
 fn letter_texts() -> Vec<Vec<u8>> {
     letters::LETTERS.iter().map(|letter| describe(&letters::points(letter.list))).collect()
 }
@@ -214,7 +211,6 @@ mod tests {
     use super::*;
     use crate::chosen::smallest_disk_through;
     use crate::geometry::Disk;
-    use crate::hull::reduce_to_hull;
     use crate::listing;
     use crate::refusal::Refusal;
     use crate::traced::smallest_disk_of_traced;
@@ -292,40 +288,6 @@ mod tests {
             assert_eq!(list.len(), 3_072);
             assert_eq!(smallest_disk_of_traced(&list) == smallest_disk_of_traced(&exact), i == 0, "list {i}");
         }
-    }
-
-    #[test]
-    fn lists_that_keep_few_many_and_all_points_are_among_the_cases() {
-        let lists = stored_for_hull();
-        let answers: Vec<Result<usize, Refusal>> = lists.iter().map(|list| reduce_to_hull(&mut list.clone())).collect();
-        let refused = |refusal: Refusal| answers.iter().filter(|answer| **answer == Err(refusal)).count();
-        assert!(refused(Refusal::OddLength) >= 20 && refused(Refusal::OutsideBox) >= 30);
-        assert!(refused(Refusal::NoPoint) >= 4 && refused(Refusal::TooMany) >= 4);
-        let kept = |least: usize, most: usize| {
-            let is_so = |answer: &&Result<usize, Refusal>| answer.is_ok_and(|count| (least..=most).contains(&count));
-            answers.iter().filter(is_so).count()
-        };
-        assert!(kept(1, 1) >= 20 && kept(2, 2) >= 80 && kept(3, 3) >= 80);
-        assert!(kept(4, 30) >= 400 && kept(31, 100) >= 40 && kept(101, 400) >= 5);
-        let all = lists.iter().zip(&answers).filter(|(list, answer)| **answer == Ok(list.len() / 2)).count();
-        assert!(all >= 100, "{all}");
-    }
-
-    #[test]
-    fn lists_for_the_hull_have_every_length() {
-        let mut lengths: Vec<usize> = stored_for_hull().iter().map(|list| list.len() / 2).collect();
-        lengths.sort_unstable();
-        let times = |least: usize, most: usize| lengths.iter().filter(|length| (least..=most).contains(length)).count();
-        assert!((1..=60).all(|length| times(length, length) > 0));
-        assert!((50..600).step_by(50).all(|length| times(length + 1, length + 50) >= 5));
-        assert!(times(601, 1_100) >= 10);
-    }
-
-    #[test]
-    fn long_lists_keep_few_points_and_many() {
-        let mut kept: Vec<usize> = hull::long().iter_mut().map(|list| reduce_to_hull(list).unwrap()).collect();
-        kept.sort_unstable();
-        assert!(kept.len() >= 8 && kept[0] <= 4 && kept[kept.len() - 1] == 560, "{kept:?}");
     }
 
     /// The writer's answer is the line before the last.

@@ -15,6 +15,7 @@ use crate::procedure::{self, Cover};
 use crate::record::{self, LONG};
 use crate::refusal::Refusal;
 use crate::sheet;
+use crate::stretch::{widest_stretch, Stretch};
 use crate::traced::smallest_disk_of_traced;
 use crate::two_fixed;
 
@@ -42,6 +43,8 @@ pub enum Call {
     Traced = b'T' as isize,
     /// A list reduced to the corners of its hull, then the engine on them.
     Hull = b'H' as isize,
+    /// The two points farthest apart.
+    Stretch = b'X' as isize,
     /// A drawing program's point put behind others, then the engine on them.
     Append = b'A' as isize,
     /// The sheet opener, then the part it found.
@@ -90,12 +93,22 @@ pub fn byte_checksum(bytes: &[u8]) -> u64 {
     checksum(bytes.iter().map(|&byte| byte.into()))
 }
 
+/// A list's numbers, two bytes each, high byte first.
+fn bytes_of(list: &[i16]) -> Vec<u8> {
+    list.iter().flat_map(|number| number.to_be_bytes()).collect()
+}
+
+/// The line with the checksum of the list after a call.
+fn left(list: &[i16]) -> String {
+    format!("left {}\n", list_checksum(list))
+}
+
 // ---- a case for each call
 
 /// A description: the listing, and the checksum of the list as the engine leaves it.
 pub fn from_description(text: Vec<u8>) -> Vector {
     let printed = match listing::solved(&text) {
-        Ok((answer, left)) => format!("{}left {}\n", listing::lines(&answer), list_checksum(&flat(&left))),
+        Ok((answer, points)) => listing::lines(&answer) + &left(&flat(&points)),
         Err(refusal) => listing::refused(refusal),
     };
     Vector { call: Call::Listing, bytes: text, printed }
@@ -103,12 +116,12 @@ pub fn from_description(text: Vec<u8>) -> Vector {
 
 /// A point list, two bytes a number, high byte first: the same, with the checksum also where the list is refused.
 pub fn engine(mut list: Vec<i16>) -> Vector {
-    let bytes = list.iter().flat_map(|number| number.to_be_bytes()).collect();
+    let bytes = bytes_of(&list);
     let printed = match engine::solve(&mut list) {
         Ok(answer) => listing::lines(&answer),
         Err(refusal) => listing::refused(refusal),
     };
-    Vector { call: Call::Engine, bytes, printed: printed + &format!("left {}\n", list_checksum(&list)) }
+    Vector { call: Call::Engine, bytes, printed: printed + &left(&list) }
 }
 
 /// The lent list's length in two bytes, high byte first, then the description. The list holds 12,321 everywhere before the call; its
@@ -128,7 +141,7 @@ pub fn loader(case: &LoaderCase) -> Vector {
 /// the checksum of the list as it is left.
 pub fn fixed(case: &FixedCase) -> Vector {
     let mut points = case.points.clone();
-    let bytes = flat(&[&[case.a, case.b], &points[..]].concat()).iter().flat_map(|number| number.to_be_bytes()).collect();
+    let bytes = bytes_of(&flat(&[&[case.a, case.b], &points[..]].concat()));
     let run = procedure::run_with(&mut points, &[case.a, case.b]);
     let disk = match run.cover {
         Cover::Disk(Disk { x, y, e, s }) => format!("disk {x} {y} {e} {s}\n"),
@@ -137,7 +150,7 @@ pub fn fixed(case: &FixedCase) -> Vector {
     if let Some(smallest) = two_fixed::smallest_through(case) {
         assert_eq!(run.cover, Cover::Disk(smallest), "the procedure and the search for the smallest disk differ");
     }
-    let printed = disk + &format!("tests {}\nleft {}\n", run.tests, list_checksum(&flat(&points)));
+    let printed = disk + &format!("tests {}\n", run.tests) + &left(&flat(&points));
     Vector { call: Call::Fixed, bytes, printed }
 }
 
@@ -149,30 +162,39 @@ pub fn chosen(case: &ChosenCase) -> Vector {
         Chosen::Two(a, b) => (2, a, b),
     };
     let numbers = [&flat(&[a, b]), &case.list[..]].concat();
-    let bytes = [count].into_iter().chain(numbers.iter().flat_map(|number| number.to_be_bytes())).collect();
+    let bytes = [&[count], &bytes_of(&numbers)[..]].concat();
     let printed = match smallest_disk_through(&case.list, case.chosen) {
         Ok(Disk { x, y, e, s }) => format!("disk {x} {y} {e} {s}\n"),
         Err(refusal) => listing::refused(refusal),
     };
-    Vector { call: Call::Chosen, bytes, printed: printed + &format!("left {}\n", list_checksum(&case.list)) }
+    Vector { call: Call::Chosen, bytes, printed: printed + &left(&case.list) }
 }
 
 /// A list of traced points, two bytes a number, high byte first: the disk, and the checksum of the list, which is left as it came.
 pub fn traced(list: &[i16]) -> Vector {
-    let bytes = list.iter().flat_map(|number| number.to_be_bytes()).collect();
     let printed = match smallest_disk_of_traced(list) {
         Ok(Disk { x, y, e, s }) => format!("disk {x} {y} {e} {s}\n"),
         Err(refusal) => listing::refused(refusal),
     };
-    Vector { call: Call::Traced, bytes, printed: printed + &format!("left {}\n", list_checksum(list)) }
+    Vector { call: Call::Traced, bytes: bytes_of(list), printed: printed + &left(list) }
 }
 
 /// A point list, two bytes a number, high byte first: how many points are kept, the checksum of the whole list after the call, and what the
 /// engine makes of the points kept.
 pub fn hull(mut list: Vec<i16>) -> Vector {
-    let bytes = list.iter().flat_map(|number| number.to_be_bytes()).collect();
+    let bytes = bytes_of(&list);
     let answer = reduce_to_hull(&mut list);
     Vector { call: Call::Hull, bytes, printed: front_printed(answer, &list) }
+}
+
+/// A point list, two bytes a number, high byte first: the two points farthest apart and their squared distance, and the checksum of the
+/// list, which is left as it came.
+pub fn stretch(list: &[i16]) -> Vector {
+    let printed = match widest_stretch(list) {
+        Ok(Stretch { a, b, w }) => format!("stretch{} {w}\n", listing::coordinates(&[a, b])),
+        Err(refusal) => listing::refused(refusal),
+    };
+    Vector { call: Call::Stretch, bytes: bytes_of(list), printed: printed + &left(list) }
 }
 
 /// The kind, 1 for whole numbers and 2 for floats; x and y in eight bytes each, floats by their bits; how many points are there in eight
@@ -187,7 +209,7 @@ pub fn append(case: &AppendCase) -> Vector {
     let mut bytes = vec![kind];
     bytes.extend([x, y, case.n].iter().flat_map(|number| number.to_be_bytes()));
     bytes.extend(room.to_be_bytes());
-    bytes.extend(case.front.iter().flat_map(|number| number.to_be_bytes()));
+    bytes.extend(bytes_of(&case.front));
     let mut list = case.list();
     let answer = drawing::append(case.point, &mut list, case.n);
     Vector { call: Call::Append, bytes, printed: front_printed(answer, &list) }
@@ -312,6 +334,17 @@ mod tests {
         assert_eq!(vector.printed, format!("points 3\nlist {list}\n{letter_f}left {left}\n"));
         let list = list_checksum(&[4, 0, -1]);
         assert_eq!(hull(vec![4, 0, -1]).printed, format!("refused 9\nlist {list}\n"));
+    }
+
+    #[test]
+    fn the_widest_stretch_is_printed_with_its_list() {
+        let list = [2, -3, 4, 0, 0, 0];
+        let vector = stretch(&list);
+        assert_eq!((vector.call as u8, vector.bytes), (b'X', vec![0, 2, 255, 253, 0, 4, 0, 0, 0, 0, 0, 0]));
+        assert_eq!(vector.printed, format!("stretch 0 0 4 0 16\nleft {}\n", list_checksum(&list)));
+        assert_eq!(stretch(&[2, -3]).printed, format!("stretch 2 -3 2 -3 0\nleft {}\n", list_checksum(&[2, -3])));
+        let left = list_checksum(&[2, -513]);
+        assert_eq!(stretch(&[2, -513]).printed, format!("refused 3\nleft {left}\n"));
     }
 
     /// Letter C in 45 bytes and in 53: read the same, and written again in 53, with eleven bytes of the buffer left.

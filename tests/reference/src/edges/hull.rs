@@ -241,7 +241,7 @@ fn lengths() -> impl Iterator<Item = Reduction> {
 }
 
 /// The places by turns, up to so many numbers.
-fn by_turns(places: &[Pair], numbers: usize) -> Vec<i16> {
+pub fn by_turns(places: &[Pair], numbers: usize) -> Vec<i16> {
     flat(&points(places)).into_iter().cycle().take(numbers).collect()
 }
 
@@ -267,15 +267,17 @@ fn long() -> Vec<Reduction> {
     ]
 }
 
-/// 4,096 points all along the em box's edges, two units apart: with its corners, and without them, where each edge keeps its two ends.
+/// 4,096 points all along the em box's edges: with its corners, and without them, where each edge keeps its two ends.
 fn around_the_box() -> [Reduction; 2] {
     let says = "no three in a row: corners all along the em box's edges";
-    let edges = |from: i16| {
-        let steps = (from..2048).step_by(2);
-        let below = steps.clone().map(|t| (t, -512)).chain(steps.clone().map(|t| (2048, t - 512)));
-        let above = steps.clone().map(|t| (2048 - t, 1536)).chain(steps.map(|t| (0, 1536 - t)));
-        below.chain(above).collect::<Vec<Pair>>()
-    };
     let cut: &[Pair] = &[(0, -511), (1, -512), (2047, -512), (2048, -511), (2048, 1535), (2047, 1536), (1, 1536), (0, 1535)];
-    [(0, BOX), (1, cut)].map(|(from, kept)| reduction(says, by_turns(&edges(from), 8_192), Ok(kept)))
+    [(0, BOX), (1, cut)].map(|(from, kept)| reduction(says, by_turns(&along_the_box(from), 8_192), Ok(kept)))
+}
+
+/// The places all along the em box's edges, two units apart, counterclockwise from so far behind its least corner.
+pub fn along_the_box(from: i16) -> Vec<Pair> {
+    let steps = (from..2048).step_by(2);
+    let below = steps.clone().map(|t| (t, -512)).chain(steps.clone().map(|t| (2048, t - 512)));
+    let above = steps.clone().map(|t| (2048 - t, 1536)).chain(steps.map(|t| (0, 1536 - t)));
+    below.chain(above).collect()
 }

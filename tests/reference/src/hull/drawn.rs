@@ -2,6 +2,7 @@
 
 use super::corners;
 use super::polygons::{any_polygon, full_polygon, least_step, overtopped, reordered, with_sides, Step};
+use crate::damage::at_times_faulty;
 use crate::engine::flat;
 use crate::geometry::Point;
 use crate::limits::{EM, MOST_POINTS};
@@ -9,7 +10,7 @@ use crate::lists::{self, point_in_box, Kind, KINDS};
 use crate::random::Random;
 
 /// Draws points of a kind, at least one: as a rule n.
-type Draw = fn(usize, &mut Random) -> Vec<Point>;
+pub type Draw = fn(usize, &mut Random) -> Vec<Point>;
 
 /// The kinds beside those of `lists.rs`.
 const DRAWS: [Draw; 10] =
@@ -18,15 +19,11 @@ const DRAWS: [Draw; 10] =
 /// The numbers of a list of up to `longest` points, of any kind, at times one or two more. In 8 lists of 100 it is faulty.
 pub fn draw(longest: usize, random: &mut Random) -> Vec<i16> {
     let n = 1 + random.below(longest);
-    let mut list = flat(&draw_points(n, random));
-    if random.chance(8) {
-        damage(&mut list, random);
-    }
-    list
+    at_times_faulty(&draw_points(n, random), random)
 }
 
 /// Of a kind of `lists.rs` in three lists of ten, else of one of the kinds here.
-fn draw_points(n: usize, random: &mut Random) -> Vec<Point> {
+pub fn draw_points(n: usize, random: &mut Random) -> Vec<Point> {
     if random.chance(30) {
         return lists::draw(random.pick(&KINDS), n, random);
     }
@@ -111,11 +108,16 @@ fn row(n: usize, random: &mut Random) -> Vec<Point> {
 fn near_row(n: usize, random: &mut Random) -> Vec<Point> {
     let on_line = line(anywhere(random), any_step(random));
     let mut points: Vec<Point> = (0..n).map(|_| random.pick(&on_line)).collect();
-    let place = random.below(n);
+    nudge_one(&mut points, random);
+    points
+}
+
+/// Moves one point by one unit, if it stays in the em box.
+pub fn nudge_one(points: &mut [Point], random: &mut Random) {
+    let place = random.below(points.len());
     let (dx, dy) = random.pick(&[(1, 0), (-1, 0), (0, 1), (0, -1)]);
     let Point { x, y } = points[place];
     points[place] = point_in_box((i64::from(x) + dx, i64::from(y) + dy)).unwrap_or(points[place]);
-    points
 }
 
 /// About a third of the points in the first column, a third in the last, the others between: up and down the em box, or within a few units.
@@ -164,37 +166,12 @@ fn reduced(n: usize, random: &mut Random) -> Vec<Point> {
     reordered(corners, random)
 }
 
-// ---- faulty lists
-
-/// No number, a number too many or too few, or too many points; a point outside the em box, at times beside one of these.
-fn damage(list: &mut Vec<i16>, random: &mut Random) {
-    let fault = random.below(13);
-    if fault >= 7 || random.chance(30) {
-        push_out(list, random);
-    }
-    match fault {
-        0 => list.clear(),
-        1..3 => list.push(random.word() as i16),
-        3..5 => list.truncate(list.len() - 1),
-        5..7 => *list = list.iter().copied().cycle().take(2 * MOST_POINTS + random.pick(&[2, 3, 4, 6])).collect(),
-        _ => (),
-    }
-}
-
-/// One number passes an edge of the em box by one, or by far.
-fn push_out(list: &mut [i16], random: &mut Random) {
-    let at = random.below(list.len());
-    let (least, most) = if at.is_multiple_of(2) { (EM.left, EM.right) } else { (EM.foot, EM.top) };
-    list[at] = random.pick(&[least - 1, most + 1, least - 1, most + 1, i16::MIN, i16::MAX]);
-}
-
 #[cfg(test)]
 mod tests {
     use super::*;
-    use crate::engine::points_of;
+    use crate::damage::point_lists::tests::{accepted_lists, assert_that_the_first_fault_decides};
     use crate::geometry::cross;
     use crate::hull::{is_in_segment, reduce_to_hull};
-    use crate::refusal::Refusal;
     use crate::smallest::smallest_disk;
     use crate::support::distinct;
 
@@ -312,9 +289,7 @@ mod tests {
 
     #[test]
     fn every_kind_of_list_is_drawn() {
-        let mut random = Random::new(1);
-        let lists = (0..4_000).map(|_| draw(60, &mut random));
-        let drawn: Vec<Drawn> = lists.filter_map(|list| crate::engine::accepted_points(&list).ok()).map(Drawn::new).collect();
+        let drawn: Vec<Drawn> = accepted_lists(draw, 1, 4_000, 60).into_iter().map(Drawn::new).collect();
         for (name, least, is_so) in KINDS_OF_LISTS {
             let times = drawn.iter().filter(|drawn| is_so(drawn)).count();
             assert!(times >= least, "{name}: {times}");
@@ -334,47 +309,13 @@ mod tests {
         assert!(long().iter().all(|list| list.len() == 2 * MOST_POINTS));
     }
 
-    /// The faults of a list in the order of the checks.
-    fn faults(list: &[i16]) -> [bool; 4] {
-        let is_outside = |p: &Point| !(0..=2048).contains(&p.x) || !(-512..=1536).contains(&p.y);
-        [list.len() % 2 == 1, list.is_empty(), list.len() > 8_192, points_of(list).iter().any(is_outside)]
-    }
-
     #[test]
-    fn every_kind_of_fault_is_drawn_and_the_first_decides() {
-        let mut random = Random::new(3);
-        let drawn: Vec<Vec<i16>> = (0..8_000).map(|_| draw(12, &mut random)).collect();
-        let numbers = [Refusal::OddLength, Refusal::NoPoint, Refusal::TooMany, Refusal::OutsideBox];
-        for list in &drawn {
-            let due = faults(list).into_iter().zip(numbers).find(|(is_faulty, _)| *is_faulty).map(|(_, refusal)| refusal);
-            let mut after = list.clone();
-            assert_eq!(reduce_to_hull(&mut after).err(), due, "{list:?}");
-            assert!(due.is_none() || after == *list, "{list:?}");
-            assert!(list.len() <= 8_200);
-        }
-        let times = |wanted: [bool; 4]| drawn.iter().filter(|list| faults(list) == wanted).count();
-        let (no, yes) = (false, true);
-        for (wanted, least) in [
-            ([no; 4], 6_000),
-            ([yes, no, no, no], 50),
-            ([yes, no, no, yes], 20),
-            ([no, yes, no, no], 20),
-            ([no, no, yes, no], 10),
-            ([no, no, yes, yes], 5),
-            ([yes, no, yes, no], 5),
-            ([no, no, no, yes], 200),
-        ] {
-            assert!(times(wanted) >= least, "{wanted:?}: {}", times(wanted));
-        }
-    }
-
-    #[test]
-    fn points_pass_each_edge_by_one() {
-        let mut random = Random::new(4);
-        let drawn: Vec<Point> = (0..4_000).flat_map(|_| points_of(&draw(12, &mut random))).collect();
-        let times = |is_so: fn(&Point) -> bool| drawn.iter().filter(|p| is_so(p)).count();
-        let passed =
-            [|p: &Point| p.x == -1, |p: &Point| p.x == 2049, |p: &Point| p.y == -513, |p: &Point| p.y == 1537].map(times);
-        assert!(passed.iter().all(|&times| times > 10), "{passed:?}");
+    fn the_first_fault_decides_and_the_list_stays() {
+        assert_that_the_first_fault_decides(draw, |list| {
+            let mut after = list.to_vec();
+            let refusal = reduce_to_hull(&mut after).err();
+            assert!(refusal.is_none() || after == list, "{list:?}");
+            refusal
+        });
     }
 }

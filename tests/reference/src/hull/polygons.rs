@@ -134,7 +134,7 @@ pub fn with_sides(n: usize, random: &mut Random) -> Vec<Point> {
 }
 
 /// A point of the lattice from a to b.
-fn on_side(a: Point, b: Point, random: &mut Random) -> Point {
+pub fn on_side(a: Point, b: Point, random: &mut Random) -> Point {
     let whole = (b.x - a.x, b.y - a.y);
     let parts = gcd(whole.0.into(), whole.1.into()).max(1) as i16;
     let t = random.coordinate(0, parts);
