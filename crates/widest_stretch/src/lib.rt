@@ -53,7 +53,7 @@ pub fn widest_stretch(list: &[i16]) -> Widest
     match engine::check(list) {
         Checked::Refused(r) => Widest::Refused(r),
         Checked::Passed => {
-            if list.len() <= 64 {
+            if list.len() <= 96 {
                 return Widest::Found(farthest_points::widest(list));
             }
             Widest::Found(widest_by_hull(list))
