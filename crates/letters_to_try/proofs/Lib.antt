@@ -8,3 +8,4 @@ pub mod TracedPoints
 pub mod HullPoints
 pub mod FittingPoints
 pub mod WiderEm
+pub mod Stretches
