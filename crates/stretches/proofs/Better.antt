@@ -5,9 +5,9 @@
 --   Compared s t, compared == what the test `better t s` says, and which of the two is at least the other
 --   Better s t r, better-of == r is s or t, and at least both; `betterOf` gives it
 --   better-narrower, better-wider, better-ahead, better-behind : which of two is the better, by their squares and, where these are equal, by their points
-use mathlib.Core.Path.{_≡_, refl, sym, _∙_, ap, subst}
+use mathlib.Core.Path.{_≡_, refl, sym, _∙_, subst}
 use mathlib.Core.Logic.{_⊎_, inl, inr}
-use mathlib.Core.Bool.{Bool, true, false, _&&_, _||_}
+use mathlib.Core.Bool.{Bool, true, false}
 use Prim.Native.Nat.{ℕ, _≤_, _<_}
 use native.Mathlib.Omega.{arith}
 use borrow.Author.Tests.{ltb-true, ltb-false, eqb-true, eqb-false, lt-ltb, le-ltb, eq-eqb, ne-eqb}
@@ -19,7 +19,6 @@ use Rattle.point_lists.specs.Sets.{same}
 use Rattle.point_lists.proofs.Order.{before-trans, before-not-equal, ByOrder, by-order}
 use Rattle.point_lists.proofs.Order as O
 use Rattle.point_lists.proofs.SamePoint.{same-eq, same-refl}
-use Rattle.hull.specs.Hull.{UpTo}
 use Rattle.hull.proofs.TwoSides.{up-to-trans}
 use Rattle.stretches.specs.declared.Stretch.{Stretch}
 use Rattle.stretches.specs.Widest.{PairUpTo, ahead, better, betterOf}

@@ -4,13 +4,13 @@
 --   farthest-corner : a point of P that no point of P is farther from q than is a corner
 --   widest-hull     : the widest stretch of P is that of its hull
 --   widest-of-hull  : and so `widestOf` of the hull is that of the list
-use mathlib.Core.Path.{_≡_, refl, sym, _∙_, ap, subst}
+use mathlib.Core.Path.{_≡_, refl, sym, _∙_, subst}
 use mathlib.Core.List.{List, [], _∷_, List·Memᴰ·not-nil}
 use Prim.Native.Nat.{ℕ, _≤_}
 use lib.IntN.{ℤ, pos, negsuc, natAbs, _-ℤ_, _*ℤ_}
 use Rattle.integers.specs.Order.{_≼_, _≺_}
 use Rattle.integers.proofs.Ring.{ring, poly}
-use Rattle.integers.proofs.Order.{nonneg, positive, pos-le, le, sq, nn, _⊞_}
+use Rattle.integers.proofs.Order.{positive, pos-le, le, sq, nn, _⊞_}
 use Rattle.geometry.specs.declared.Point.{Point}
 use Rattle.point_lists.specs.Sets.{In}
 use Rattle.disks.specs.Procedure.{norm}

@@ -1,10 +1,9 @@
 -- `farthest_points::best_from` meets its contract. The loop's invariant: the best of `found` and the points from place j on is that of s and the points from
 -- place i on.
 use mathlib.Core.Path.{_≡_, refl, sym, ap, _∙_}
-use Prim.Native.Nat.{ℕ, _+_, _-_, _*_, _/_, _≤_}
+use Prim.Native.Nat.{_+_, _-_, _≤_}
 use native.Mathlib.Omega.{arith}
-use borrow.Author.Needs.{needs}
-use lib.ListN.{length, drop}
+use lib.ListN.{drop}
 use Rattle.geometry.specs.declared.Point.{Point}
 use Rattle.geometry.specs.Points.{points, pointAt}
 use Rattle.stretches.specs.declared.Stretch.{Stretch}

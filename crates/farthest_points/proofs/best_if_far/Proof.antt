@@ -1,5 +1,5 @@
 -- `farthest_points::best_if_far` meets its contract: where no point is as far as s is wide, s stays the best.
-use mathlib.Core.Path.{sym, ap, subst, _∙_}
+use mathlib.Core.Path.{sym, subst}
 use Prim.Native.Nat.{ℕ, _<_}
 use borrow.Author.Needs.{needs}
 use lib.ListN.{drop}

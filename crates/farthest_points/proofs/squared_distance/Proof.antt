@@ -1,5 +1,5 @@
 -- `farthest_points::squared_distance` meets its contract: nothing wraps, and a sum of squares can be cast.
-use mathlib.Core.Path.{_≡_, sym, ap, subst}
+use mathlib.Core.Path.{sym, ap, subst}
 use Prim.Native.Nat.{_^_, _<_}
 use native.Mathlib.Omega.{arith}
 use lib.Dec.{T}

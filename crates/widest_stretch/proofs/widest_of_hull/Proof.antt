@@ -1,5 +1,5 @@
 -- `widest_stretch::widest_of_hull` meets its contract: the points that are kept have the list's widest stretch.
-use mathlib.Core.Path.{_≡_, sym, ap, _∙_}
+use mathlib.Core.Path.{sym, _∙_}
 use Prim.Native.Nat.{_*_, _≤_}
 use native.Mathlib.Omega.{arith}
 use borrow.Author.Needs.{needs}
