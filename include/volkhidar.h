@@ -10,7 +10,7 @@
  *
  *   Memory      Nothing is allocated, kept or freed, and there is no global state: every byte belongs to the caller, and a pointer is
  *               used only during the call. Calls from several threads at once are safe as long as they do not write to the same
- *               memory. The stack should have 64 KiB free: the deepest call takes about 34 KiB, read off the compiled code; the proofs
+ *               memory. The stack should have 64 KiB free: the deepest call takes about 41 KiB, read off the compiled code; the proofs
  *               do not cover the stack.
  *   Pointers    A pointer and the length behind it describe one run of memory; the length counts elements. A pointer is never null,
  *               not even with length 0, and is aligned for its type. In one call, memory that is written overlaps no other argument.
