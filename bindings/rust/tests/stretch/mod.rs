@@ -65,10 +65,26 @@ fn drawn_lists_stretched() {
     assert!(times.iter().all(|&number| number > 300), "{times:?}");
 }
 
+/// Drawn for pairs that are as far apart; some are faulty.
+#[test]
+fn lists_with_ties_stretched() {
+    let mut random = Random::new(1);
+    let mut ties = 0;
+    for place in 0..20_000 {
+        let list = stretch::draw(100, &mut random);
+        let found = compare_stretch(&list, &format!("list {place} of seed 1"));
+        ties += usize::from(found.is_ok_and(|(found, as_far)| found.w > 0 && as_far > 1));
+    }
+    assert!(ties > 6_000, "{ties}");
+}
+
 #[test]
 fn long_lists_stretched() {
     for case in point_lists::long() {
         compare_stretch(&flat(&case.points), &case.name).unwrap();
+    }
+    for (place, list) in stretch::long().iter().enumerate() {
+        compare_stretch(list, &format!("list {place} of the stored long ones")).unwrap();
     }
 }
 
