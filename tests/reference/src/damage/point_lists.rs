@@ -68,6 +68,18 @@ pub(crate) mod tests {
         (0..count).filter_map(|_| accepted_points(&draw(longest, &mut random)).ok()).collect()
     }
 
+    /// What drawn lists are like, and how many are so at least.
+    pub type KindOfList<D> = (&'static str, usize, fn(&D) -> bool);
+
+    /// That of 4,000 drawn lists of up to 60 points so many are of each kind.
+    pub fn assert_that_each_kind_is_drawn<D>(draw: Draw, seen_as: fn(Vec<Point>) -> D, kinds: &[KindOfList<D>]) {
+        let drawn: Vec<D> = accepted_lists(draw, 1, 4_000, 60).into_iter().map(seen_as).collect();
+        for (name, least, is_so) in kinds {
+            let times = drawn.iter().filter(|drawn| is_so(drawn)).count();
+            assert!(times >= *least, "{name}: {times}");
+        }
+    }
+
     /// The faults of a list in the order of the checks.
     fn faults(list: &[i16]) -> [bool; 4] {
         let is_outside = |p: &Point| !(0..=2048).contains(&p.x) || !(-512..=1536).contains(&p.y);

@@ -169,7 +169,7 @@ fn reduced(n: usize, random: &mut Random) -> Vec<Point> {
 #[cfg(test)]
 mod tests {
     use super::*;
-    use crate::damage::point_lists::tests::{accepted_lists, assert_that_the_first_fault_decides};
+    use crate::damage::point_lists::tests::{assert_that_each_kind_is_drawn, assert_that_the_first_fault_decides, KindOfList};
     use crate::geometry::cross;
     use crate::hull::{is_in_segment, reduce_to_hull};
     use crate::smallest::smallest_disk;
@@ -257,10 +257,8 @@ mod tests {
             })
     }
 
-    type Test = fn(&Drawn) -> bool;
-
     /// What drawn lists are like, and how many of 4,000 are so at least.
-    const KINDS_OF_LISTS: [(&str, usize, Test); 24] = [
+    const KINDS_OF_LISTS: [KindOfList<Drawn>; 24] = [
         ("one point", 20, |l| l.points.len() == 1),
         ("one place again and again", 50, |l| l.points.len() > 1 && l.different.len() == 1),
         ("a row straight right", 40, |l| l.is_row(|_, y| y == 0)),
@@ -289,11 +287,7 @@ mod tests {
 
     #[test]
     fn every_kind_of_list_is_drawn() {
-        let drawn: Vec<Drawn> = accepted_lists(draw, 1, 4_000, 60).into_iter().map(Drawn::new).collect();
-        for (name, least, is_so) in KINDS_OF_LISTS {
-            let times = drawn.iter().filter(|drawn| is_so(drawn)).count();
-            assert!(times >= least, "{name}: {times}");
-        }
+        assert_that_each_kind_is_drawn(draw, Drawn::new, &KINDS_OF_LISTS);
     }
 
     #[test]

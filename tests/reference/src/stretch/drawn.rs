@@ -152,7 +152,7 @@ fn nearly_equilateral(n: usize, random: &mut Random) -> Vec<Point> {
 #[cfg(test)]
 mod tests {
     use super::*;
-    use crate::damage::point_lists::tests::{accepted_lists, assert_that_the_first_fault_decides};
+    use crate::damage::point_lists::tests::{assert_that_each_kind_is_drawn, assert_that_the_first_fault_decides, KindOfList};
     use crate::engine::points_of;
     use crate::geometry::Disk;
     use crate::hull::corners;
@@ -291,10 +291,8 @@ mod tests {
         }
     }
 
-    type Test = fn(&Drawn) -> bool;
-
     /// What drawn lists are like, and how many of 4,000 are so at least.
-    const KINDS_OF_LISTS: [(&str, usize, Test); 39] = [
+    const KINDS_OF_LISTS: [KindOfList<Drawn>; 39] = [
         ("one point", 20, |l| l.points.len() == 1),
         ("one place again and again", 20, |l| l.points.len() > 1 && l.different.len() == 1),
         ("a row", 100, |l| l.corners.len() == 2 && l.different.len() > 2),
@@ -338,11 +336,7 @@ mod tests {
 
     #[test]
     fn every_kind_of_list_is_drawn() {
-        let drawn: Vec<Drawn> = accepted_lists(draw, 1, 4_000, 60).into_iter().map(Drawn::new).collect();
-        for (name, least, is_so) in KINDS_OF_LISTS {
-            let times = drawn.iter().filter(|drawn| is_so(drawn)).count();
-            assert!(times >= least, "{name}: {times}");
-        }
+        assert_that_each_kind_is_drawn(draw, Drawn::new, &KINDS_OF_LISTS);
     }
 
     #[test]
