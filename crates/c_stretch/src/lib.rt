@@ -3,7 +3,7 @@ ghost use mathlib.Core.Path.{_≡_};
 ghost use Rattle.widest_stretch.specs.Stretching.{stretchOf};
 ghost use Rattle.c_stretch.specs.Answer.{stretchAnswer};
 use geometry::Point;
-use widest_stretch::Widest;
+use widest_stretch::Stretched;
 
 #[repr(C)]
 pub struct StretchAnswer {
@@ -17,9 +17,9 @@ pub fn widest_stretch(list: &[i16]) -> StretchAnswer
     ensures answer { λ r. ⌜ r ≡ stretchAnswer (stretchOf (now (list .entry))) ⌝ }
     ensures list { λ _. ⌜ now (list .exit) ≡ now (list .entry) ⌝ }
 {
-    let widest = widest_stretch::widest_stretch(list);
-    match widest {
-        Widest::Found(s) => {
+    let stretched = widest_stretch::widest_stretch(list);
+    match stretched {
+        Stretched::Found(s) => {
             let a = s.a;
             let b = s.b;
             StretchAnswer {
@@ -29,7 +29,7 @@ pub fn widest_stretch(list: &[i16]) -> StretchAnswer
                 w: s.w,
             }
         }
-        Widest::Refused(r) => {
+        Stretched::Refused(r) => {
             let origin = Point { x: 0, y: 0 };
             StretchAnswer {
                 refusal: c_types::code(r),

@@ -1,7 +1,7 @@
 -- The widest stretches of the letters and of other lists (02, item 11). Shown in proofs/Stretches.antt.
 --
 --   stretch p q w       == the stretch from p to q, w the square of its length
---   Stretched           == a list, and its stretch or the refusal
+--   Measuring           == a list, and its stretch or the refusal
 --   stretched           == pairs as far apart, with nothing in common, with the same first point and with the same second one; the em box from corner to
 --                          corner; what is refused
 --   AllAnswer cs        == each of the lists cs is answered so
@@ -20,11 +20,11 @@ use Rattle.letters_to_try.specs.Letters.{Letter, at, below}
 abbrev pub stretch : Point → Point → ℕ → Stretch
 stretch p q w = record { a = p; b = q; w = w }
 
-pub record Stretched : Type 0 where
+pub record Measuring : Type 0 where
   pub list : List ℤ
   pub answer : Outcome Stretch
 
-abbrev pub stretched : List Stretched
+abbrev pub stretched : List Measuring
 stretched =
     -- "among equals take the least pair": the diagonals of a square, whichever comes first
     record { list = flat (at 10 0 ∷ at 0 10 ∷ at 10 10 ∷ at 0 0 ∷ []); answer = given (stretch (at 0 0) (at 10 10) 200) }
@@ -46,7 +46,7 @@ stretched =
     ∷ record { list = flat (at 5 5 ∷ at 2049 0 ∷ []); answer = refused 3 }
     ∷ []
 
-abbrev pub AllAnswer : List Stretched → Type 0
+abbrev pub AllAnswer : List Measuring → Type 0
 AllAnswer [] = Unit {0}
 AllAnswer (c ∷ cs) = (stretchOf (c .list) ≡ c .answer) × AllAnswer cs
 

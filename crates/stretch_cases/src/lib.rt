@@ -1,6 +1,6 @@
 // Stored cases of the widest stretch of a list (tests/README.md): each is given its bytes, and what the call answers and leaves is printed.
 use stretches::Stretch;
-use widest_stretch::Widest;
+use widest_stretch::Stretched;
 
 fn print_stretch(s: Stretch) {
     printing::print_text(b"stretch");
@@ -12,8 +12,8 @@ fn print_stretch(s: Stretch) {
 
 fn solve(list: &[i16]) {
     match widest_stretch::widest_stretch(list) {
-        Widest::Found(s) => print_stretch(s),
-        Widest::Refused(r) => printing::print_refusal(r),
+        Stretched::Found(s) => print_stretch(s),
+        Stretched::Refused(r) => printing::print_refusal(r),
     }
     printing::print_count(b"left", checksum::of_list(list));
 }

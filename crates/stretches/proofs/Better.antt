@@ -72,14 +72,14 @@ in-order s t = go (by-order (s .a) (t .a)) (by-order (s .b) (t .b))
     go (O.level e f q) (O.behind h k) = second (rw (e, same-path q, h)) (inr (sym q, inr (true-test k)))
     go (O.level e f q) (O.level h k r) = second (rw (e, same-path q, h)) (inr (sym q, inl (sym r)))
 
-pub data Compared (s t : Stretch) : Type 0 where
+data Compared (s t : Stretch) : Type 0 where
   second-better : better t s ≡ true → AtLeast t s → Compared s t
   first-stays : better t s ≡ false → AtLeast s t → Compared s t
 
 less : (m n : ℕ) → n ≤ m → (n ≡ m → ⊥) → n < m
 less m n h k = omega (arith, h, k)
 
-pub compared : (s t : Stretch) → Compared s t
+compared : (s t : Stretch) → Compared s t
 unfolding better
 compared s t = go (ltb (s .w) (t .w)) (eqb (t .w) (s .w)) refl refl (in-order t s)
   where

@@ -80,12 +80,12 @@ ordered-comm p q = go (by-order p q)
 
 -- ---- the best of many
 
-pub record Between (L : List Point) (r : Stretch) : Type 0 where
-  pub p : Point
-  pub q : Point
-  pub p-in : In p L
-  pub q-in : In q L
-  pub is : r ≡ ordered p q
+record Between (L : List Point) (r : Stretch) : Type 0 where
+  p : Point
+  q : Point
+  p-in : In p L
+  q-in : In q L
+  is : r ≡ ordered p q
 
 better-between : {L : List Point} {s t : Stretch} → Between L s → Between L t → Between L (betterOf s t)
 better-between {L} {s} {t} b c = go (better-of s t .one)
@@ -111,7 +111,7 @@ unfolding bestFrom
 from-first s p [] = at-least-refl s
 from-first s p (q ∷ Q) = at-least-trans (from-first (betterOf s (ordered p q)) p Q) (better-of s (ordered p q) .first)
 
-pub from-each : (s : Stretch) (p : Point) (Q : List Point) (q : Point) → In q Q → AtLeast (bestFrom s p Q) (ordered p q)
+from-each : (s : Stretch) (p : Point) (Q : List Point) (q : Point) → In q Q → AtLeast (bestFrom s p Q) (ordered p q)
 unfolding bestFrom
 from-each s p (r ∷ Q) q (List·Memᴰ·head e) = at-least-trans (from-first (betterOf s (ordered p r)) p Q)
     (subst (λ (x : Point). AtLeast (betterOf s (ordered p r)) (ordered p x)) (sym e) (better-of s (ordered p r) .second))
@@ -126,7 +126,7 @@ of-head : (s : Stretch) (p : Point) (Q : List Point) (q : Point) → In q (p ∷
 unfolding bestOf
 of-head s p Q q i = at-least-trans (of-first (bestFrom s p (p ∷ Q)) Q) (from-each s p (p ∷ Q) q i)
 
-pub of-each : (s : Stretch) (Q : List Point) (p q : Point) → In p Q → In q Q → AtLeast (bestOf s Q) (ordered p q)
+of-each : (s : Stretch) (Q : List Point) (p q : Point) → In p Q → In q Q → AtLeast (bestOf s Q) (ordered p q)
 unfolding bestOf
 of-each s (r ∷ Q) p q (List·Memᴰ·head e) j = subst (λ (x : Point). AtLeast (bestOf s (r ∷ Q)) (ordered x q)) (sym e) (of-head s r Q q j)
 of-each s (r ∷ Q) p q (List·Memᴰ·tail i) (List·Memᴰ·head e) = subst (AtLeast (bestOf s (r ∷ Q))) (ordered-comm q p)
@@ -178,9 +178,6 @@ widest-of p P = record {
   least = λ q r i j u e. no-earlier q r u e (each q r i j);
 }
   where
-    L : List Point
-    L = p ∷ P
-
     start : Between (p ∷ P) (ordered p p)
     start = record { p = p; q = p; p-in = List·Memᴰ·head refl; q-in = List·Memᴰ·head refl; is = refl }
 

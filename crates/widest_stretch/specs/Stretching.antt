@@ -12,10 +12,10 @@ use Rattle.geometry.specs.Points.{points}
 use Rattle.engine.specs.Engine.{encloseOf}
 use Rattle.stretches.specs.declared.Stretch.{Stretch}
 use Rattle.stretches.specs.Widest.{widestOf}
-use Rattle.widest_stretch.specs.declared.Widest.{Widest}
-use Rattle.widest_stretch.specs.declared.Widest.the-variants.{Found, Refused}
+use Rattle.widest_stretch.specs.declared.Stretched.{Stretched}
+use Rattle.widest_stretch.specs.declared.Stretched.the-variants.{Found, Refused}
 
-abbrev pub outcome : Widest → Outcome Stretch
+abbrev pub outcome : Stretched → Outcome Stretch
 outcome (Found s) = given s
 outcome (Refused r) = refused (numberOf r)
 

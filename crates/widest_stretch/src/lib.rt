@@ -13,7 +13,7 @@ ghost use Rattle.stretches.specs.Widest.{widestOf};
 ghost use Rattle.hull_lists.specs.Enclosed.{Boxed};
 ghost use Rattle.widest_stretch.specs.Stretching.{outcome, stretchOf};
 
-pub enum Widest {
+pub enum Stretched {
     Found(Stretch),
     Refused(Refusal),
 }
@@ -46,17 +46,17 @@ fn widest_by_hull(list: &[i16]) -> Stretch
 }
 
 // The two points of the list that are farthest apart, and the square of their distance. The list is only read.
-pub fn widest_stretch(list: &[i16]) -> Widest
+pub fn widest_stretch(list: &[i16]) -> Stretched
     ensures answer { λ r. ⌜ outcome r ≡ stretchOf (now (list .entry)) ⌝ }
     ensures list { λ _. ⌜ now (list .exit) ≡ now (list .entry) ⌝ }
 {
     match engine::check(list) {
-        Checked::Refused(r) => Widest::Refused(r),
+        Checked::Refused(r) => Stretched::Refused(r),
         Checked::Passed => {
             if list.len() <= 96 {
-                return Widest::Found(farthest_points::widest(list));
+                return Stretched::Found(farthest_points::widest(list));
             }
-            Widest::Found(widest_by_hull(list))
+            Stretched::Found(widest_by_hull(list))
         }
     }
 }

@@ -12,11 +12,11 @@ use Rattle.c_stretch.proofs.widest_stretch.Tie as tie
 widest-stretch-requires : tie.Need-widest-stretch-requires
 widest-stretch-requires c κs = search needs
 
-enum-known-widest : tie.Need-enum-known-widest
-enum-known-widest c = search needs
+enum-known-stretched : tie.Need-enum-known-stretched
+enum-known-stretched c = search needs
 
-enum-known-widest-2 : tie.Need-enum-known-widest-2
-enum-known-widest-2 c = search needs
+enum-known-stretched-2 : tie.Need-enum-known-stretched-2
+enum-known-stretched-2 c = search needs
 
 code-requires : tie.Need-code-requires
 code-requires c κs = search needs
@@ -24,13 +24,13 @@ code-requires c κs = search needs
 returns : tie.Need-returns
 returns c =
     let found = c .before .before .before in
-    (known-outcome outcome stretchAnswer (found .widest .given .1) (found .before .before .widest-stretch .ensures .0), refl)
+    (known-outcome outcome stretchAnswer (found .stretched .given .1) (found .before .before .widest-stretch .ensures .0), refl)
 
 returns-2 : tie.Need-returns-2
 returns-2 c =
     let found = c .before .before in (
       ap (λ (n : ℕ). stretchAnswer (refused n)) (c .code .ensures)
-          ∙ known-outcome outcome stretchAnswer (found .widest2 .given .1) (found .before .before .widest-stretch .ensures .0),
+          ∙ known-outcome outcome stretchAnswer (found .stretched2 .given .1) (found .before .before .widest-stretch .ensures .0),
       refl,
     )
 
@@ -39,8 +39,8 @@ widest-stretch-spec =
     tie.close
     (tie.spec
     widest-stretch-requires
-    enum-known-widest
-    enum-known-widest-2
+    enum-known-stretched
+    enum-known-stretched-2
     code-requires
     returns
     returns-2)
