@@ -16,8 +16,7 @@ use Rattle.geometry.specs.declared.Point.{Point}
 use Rattle.geometry.specs.EmBox.{em, Inside, allInEmBox}
 use Rattle.geometry.specs.Points.{points, pointAt}
 use Rattle.geometry.proofs.EmBox.{all-inside}
-use Rattle.geometry.proofs.PointLists.{firstPoints-whole}
-use Rattle.geometry.proofs.PointRows.{points-from, pointAt-in, firstPoints-end}
+use Rattle.geometry.proofs.PointRows.{points-from, points-end, pointAt-in}
 use Rattle.stretches.specs.declared.Stretch.{Stretch}
 use Rattle.stretches.specs.Widest.{apart, ordered, betterOf, bestFrom, bestOf}
 use Rattle.stretches.proofs.Better.{better-narrower}
@@ -28,11 +27,6 @@ module _ (l : List ℤ) (i : ℕ) where
   pub inside-at : {p : Point} → p ≡ pointAt l i → allInEmBox (points l) ≡ true → 2 * i + 2 ≤ length l → Inside em p
   inside-at e b h = subst (Inside em) (sym e) (all-inside (points l) b (pointAt l i) (pointAt-in i l h))
 
-  points-end : length l / 2 ≤ i → drop i (points l) ≡ []
-  points-end h =
-      let n = length l / 2 in
-      ap (drop i) (sym (firstPoints-whole n l (omega arith) (omega arith))) ∙ firstPoints-end n i l (omega arith) h
-
   pub from-step : (s : Stretch) (p : Point) → 2 * i + 2 ≤ length l
       → bestFrom s p (drop i (points l)) ≡ bestFrom (betterOf s (ordered p (pointAt l i))) p (drop (i + 1) (points l))
   unfolding bestFrom
@@ -40,7 +34,7 @@ module _ (l : List ℤ) (i : ℕ) where
 
   pub from-end : (s : Stretch) (p : Point) → length l / 2 ≤ i → bestFrom s p (drop i (points l)) ≡ s
   unfolding bestFrom
-  from-end s p h = ap (bestFrom s p) (points-end h)
+  from-end s p h = ap (bestFrom s p) (points-end i l h)
 
   pub of-step : (s : Stretch) → 2 * i + 2 ≤ length l
       → bestOf s (drop i (points l)) ≡ bestOf (bestFrom s (pointAt l i) (drop i (points l))) (drop (i + 1) (points l))
@@ -49,7 +43,7 @@ module _ (l : List ℤ) (i : ℕ) where
 
   pub of-end : (s : Stretch) → length l / 2 ≤ i → bestOf s (drop i (points l)) ≡ s
   unfolding bestOf
-  of-end s h = ap (bestOf s) (points-end h)
+  of-end s h = ap (bestOf s) (points-end i l h)
 
   pub reach-step : (m : ℕ) (p : Point) → 2 * i + 2 ≤ length l
       → reachFrom m p (drop i (points l)) ≡ reachFrom (max m (apart p (pointAt l i))) p (drop (i + 1) (points l))
@@ -58,7 +52,7 @@ module _ (l : List ℤ) (i : ℕ) where
 
   pub reach-end : (m : ℕ) (p : Point) → length l / 2 ≤ i → reachFrom m p (drop i (points l)) ≡ m
   unfolding reachFrom
-  reach-end m p h = ap (reachFrom m p) (points-end h)
+  reach-end m p h = ap (reachFrom m p) (points-end i l h)
 
 reach-most : (m : ℕ) (p : Point) (Q : List Point) → m ≤ reachFrom m p Q
 unfolding reachFrom

@@ -5,6 +5,7 @@
 --   points-some           : a list of two numbers or more has a point
 --   pointAt-in            : point i is one of the points
 --   firstPoints-from, firstPoints-end : so of the first n points, up to the last
+--   points-end            : behind the last point there is none
 --   firstPoints-take      : the first k of the first n points
 --   drop-next             : lists with the same numbers from 2i on have the same from 2(i + 1) on
 --   pointAt-drop          : lists with the same numbers from 2i on have the same point i
@@ -56,6 +57,11 @@ module _ (n i : ℕ) (l : List ℤ) (fits : 2 * n ≤ length l) where
 
   pub firstPoints-end : n ≤ i → drop i (firstPoints n l) ≡ []
   firstPoints-end h = drop-of-length-le (firstPoints n l) {i = i} (omega (arith, length-firstPoints n l fits))
+
+pub points-end : (i : ℕ) (l : List ℤ) → length l / 2 ≤ i → drop i (points l) ≡ []
+points-end i l h =
+    let n = length l / 2 in
+    ap (drop i) (sym (firstPoints-whole n l (omega arith) (omega arith))) ∙ firstPoints-end n i l (omega arith) h
 
 -- the first k of the first n points
 pub firstPoints-take : (k n : ℕ) (l : List ℤ) → k ≤ n → 2 * n ≤ length l → take k (firstPoints n l) ≡ firstPoints k l

@@ -1,7 +1,7 @@
 -- Whether two points are the same.
 --
 --   eqZ-eq, eqZ-refl   : `eqZ` decides equality of whole numbers
---   same-eq, same-refl : `same` decides equality of points
+--   same-eq, same-refl, differ : `same` decides equality of points
 --   same-bits          : coordinates are compared by their bits
 use mathlib.Core.Path.{_≡_, refl, sym, ap, _∙_, subst}
 use mathlib.Core.Bool.{Bool, true, false, true≢false}
@@ -35,6 +35,13 @@ same-eq p q h =
 pub same-refl : (p : Point) → same p p ≡ true
 unfolding same
 same-refl p = both (eqZ-refl (p .x)) (eqZ-refl (p .y))
+
+pub differ : (p q : Point) → (p ≡ q → ⊥) → same p q ≡ false
+differ p q n = go (same p q) refl
+  where
+    go : (b : Bool) → same p q ≡ b → b ≡ false
+    go true e = absurd (n (same-eq p q e))
+    go false e = refl
 
 pub same-bits : {a b : ℤ} → SFits w16 a → SFits w16 b → eqb (ofZ w16 a) (ofZ w16 b) ≡ eqZ a b
 same-bits {a} {b} f g = go (eqb (ofZ w16 a) (ofZ w16 b)) (eqZ a b) refl refl

@@ -51,7 +51,8 @@ given-widest l s k w =
     let (e, h) = calls.engine l .taken .1 k in
     given-answer l h ∙ ap given (widest-unique (of-accepted l e h) w)
 
-single : (l : List ℤ) (p : Point) → AllKept (engineRow l) → ((q : Point) → In q (points l) → q ≡ p) → stretchOf l ≡ given (record { a = p; b = p; w = 0 })
+single : (l : List ℤ) (p : Point) → AllKept (engineRow l) → ((q : Point) → In q (points l) → q ≡ p)
+    → stretchOf l ≡ given (record { a = p; b = p; w = 0 })
 single l p k f =
     let (e, h) = calls.engine l .taken .1 k in
     given-answer l h ∙ ap given (widest-alone p f (of-accepted l e h))
@@ -59,7 +60,8 @@ single l p k f =
 -- ---- in the em box
 
 -- x and y of one point are at most 2,048 from those of the other: (2048 − d)(2048 + d) is not negative
-in-range : (ax ay bx by : ℤ) → pos 0 ≼ ax → ax ≼ pos 2048 → negsuc 511 ≼ ay → ay ≼ pos 1536 → pos 0 ≼ bx → bx ≼ pos 2048 → negsuc 511 ≼ by → by ≼ pos 1536
+in-range : (ax ay bx by : ℤ) → pos 0 ≼ ax → ax ≼ pos 2048 → negsuc 511 ≼ ay → ay ≼ pos 1536
+    → pos 0 ≼ bx → bx ≼ pos 2048 → negsuc 511 ≼ by → by ≼ pos 1536
     → norm (bx -ℤ ax) (by -ℤ ay) ≼ pos 8388608
 in-range ax ay bx by al ar af at bl br bf bt = nonneg (ax ∷ ay ∷ bx ∷ by ∷ [])
     ((le al ⊞ le br) ⊠ (le ar ⊞ le bl) ⊞ (le af ⊞ le bt) ⊠ (le at ⊞ le bf)) (search poly depth 30) tt

@@ -8,7 +8,7 @@
 use mathlib.Core.Path.{_≡_, refl, sym, _∙_, subst}
 use mathlib.Core.Logic.{_⊎_, inl, inr}
 use mathlib.Core.Bool.{Bool, true, false}
-use Prim.Native.Nat.{ℕ, _≤_, _<_}
+use Prim.Native.Nat.{_<_}
 use native.Mathlib.Omega.{arith}
 use borrow.Author.Tests.{ltb-true, ltb-false, eqb-true, eqb-false, lt-ltb, le-ltb, eq-eqb, ne-eqb}
 use lib.Dec.{T, ltb, eqb}
@@ -18,7 +18,7 @@ use Rattle.geometry.specs.Order.{before}
 use Rattle.point_lists.specs.Sets.{same}
 use Rattle.point_lists.proofs.Order.{before-trans, before-not-equal, ByOrder, by-order}
 use Rattle.point_lists.proofs.Order as O
-use Rattle.point_lists.proofs.SamePoint.{same-eq, same-refl}
+use Rattle.point_lists.proofs.SamePoint.{same-refl, differ}
 use Rattle.hull.proofs.TwoSides.{up-to-trans}
 use Rattle.stretches.specs.declared.Stretch.{Stretch}
 use Rattle.stretches.specs.Widest.{PairUpTo, ahead, better, betterOf}
@@ -51,13 +51,6 @@ data InOrder (s t : Stretch) : Type 0 where
   first : ahead s t ≡ true → UpToStretch s t → InOrder s t
   second : ahead s t ≡ false → UpToStretch t s → InOrder s t
 
-not-same : (p q : Point) → before q p ≡ true → same p q ≡ false
-not-same p q h = go (same p q) refl
-  where
-    go : (b : Bool) → same p q ≡ b → same p q ≡ false
-    go true e = absurd (before-not-equal q p (true-test h) (sym (same-eq p q e)))
-    go false e = e
-
 same-path : {p q : Point} → p ≡ q → same p q ≡ true
 same-path {p} e = subst (λ (q : Point). same p q ≡ true) e (same-refl p)
 
@@ -67,7 +60,7 @@ in-order s t = go (by-order (s .a) (t .a)) (by-order (s .b) (t .b))
   where
     go : ByOrder (s .a) (t .a) → ByOrder (s .b) (t .b) → InOrder s t
     go (O.ahead e) d = first (rw e) (inl (true-test e))
-    go (O.behind e f) d = second (rw (e, not-same (s .a) (t .a) f)) (inl (true-test f))
+    go (O.behind e f) d = second (rw (e, differ (s .a) (t .a) (λ q. before-not-equal (t .a) (s .a) (true-test f) (sym q)))) (inl (true-test f))
     go (O.level e f q) (O.ahead h) = first (rw (e, same-path q, h)) (inr (q, inr (true-test h)))
     go (O.level e f q) (O.behind h k) = second (rw (e, same-path q, h)) (inr (sym q, inr (true-test k)))
     go (O.level e f q) (O.level h k r) = second (rw (e, same-path q, h)) (inr (sym q, inl (sym r)))
@@ -75,9 +68,6 @@ in-order s t = go (by-order (s .a) (t .a)) (by-order (s .b) (t .b))
 data Compared (s t : Stretch) : Type 0 where
   second-better : better t s ≡ true → AtLeast t s → Compared s t
   first-stays : better t s ≡ false → AtLeast s t → Compared s t
-
-less : (m n : ℕ) → n ≤ m → (n ≡ m → ⊥) → n < m
-less m n h k = omega (arith, h, k)
 
 compared : (s t : Stretch) → Compared s t
 unfolding better
@@ -87,7 +77,7 @@ compared s t = go (ltb (s .w) (t .w)) (eqb (t .w) (s .w)) refl refl (in-order t 
     go true y e f d = second-better (rw e) (wider (ltb-true (s .w) (t .w) e))
     go false true e f (first h k) = second-better (rw (e, f, h)) (level (sym (eqb-true (t .w) (s .w) f)) k)
     go false true e f (second h k) = first-stays (rw (e, f, h)) (level (eqb-true (t .w) (s .w) f) k)
-    go false false e f d = first-stays (rw (e, f)) (wider (less (s .w) (t .w) (ltb-false (s .w) (t .w) e) (eqb-false (t .w) (s .w) f)))
+    go false false e f d = first-stays (rw (e, f)) (wider (omega (arith, ltb-false (s .w) (t .w) e, eqb-false (t .w) (s .w) f)))
 
 -- ---- the better of two
 

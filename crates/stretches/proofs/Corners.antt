@@ -7,10 +7,11 @@
 use mathlib.Core.Path.{_≡_, refl, sym, _∙_, subst}
 use mathlib.Core.List.{List, [], _∷_, List·Memᴰ·not-nil}
 use Prim.Native.Nat.{ℕ, _≤_}
-use lib.IntN.{ℤ, pos, negsuc, natAbs, _-ℤ_, _*ℤ_}
+use lib.IntN.{ℤ, pos, _-ℤ_, _*ℤ_}
+use lib.Signed.{yes-nonNeg, pos-natAbs}
 use Rattle.integers.specs.Order.{_≼_, _≺_}
 use Rattle.integers.proofs.Ring.{ring, poly}
-use Rattle.integers.proofs.Order.{positive, pos-le, le, sq, nn, _⊞_}
+use Rattle.integers.proofs.Order.{positive, pos-le, sq, nn, _⊞_}
 use Rattle.geometry.specs.declared.Point.{Point}
 use Rattle.point_lists.specs.Sets.{In}
 use Rattle.disks.specs.Procedure.{norm}
@@ -24,12 +25,8 @@ use Rattle.stretches.specs.declared.Stretch.{Stretch}
 use Rattle.stretches.specs.Widest.{apart, Widest, widestOf}
 use Rattle.stretches.proofs.Found.{apart-comm, widest-of, widest-unique}
 
-not-negative : (z : ℤ) → pos 0 ≼ z → pos (natAbs z) ≡ z
-not-negative (pos n) h = refl
-not-negative (negsuc n) h = absurd (h .le)
-
 pub apart-is : (p q : Point) → pos (apart p q) ≡ norm (q .x -ℤ p .x) (q .y -ℤ p .y)
-apart-is p q = not-negative (norm (q .x -ℤ p .x) (q .y -ℤ p .y)) (sq (q .x -ℤ p .x) ⊞ sq (q .y -ℤ p .y))
+apart-is p q = pos-natAbs (norm (q .x -ℤ p .x) (q .y -ℤ p .y)) (yes-nonNeg (sq (q .x -ℤ p .x) ⊞ sq (q .y -ℤ p .y)))
 
 -- the distance from q, as that from the centre (x/1, y/1)
 abbrev from : Point → Point → ℤ
@@ -49,7 +46,8 @@ module _ {P H : List Point} (h : IsHull P H) where
   farthest-corner p q i f = a-corner (q .x) (q .y) (pos 1) (pos 1) (from q p) within (mean H h p i) one one refl
     where
       within : (r : Point) → In r H → from q r ≼ from q p
-      within r j = subst (λ (z : ℤ). z ≼ from q p) (sym (from-is q r)) (subst (λ (z : ℤ). pos (apart q r) ≼ z) (sym (from-is q p)) (pos-le (f r (h .members r j))))
+      within r j = subst (λ (z : ℤ). z ≼ from q p) (sym (from-is q r))
+          (subst (λ (z : ℤ). pos (apart q r) ≼ z) (sym (from-is q p)) (pos-le (f r (h .members r j))))
 
   pub widest-hull : {s : Stretch} → Widest P s → Widest H s
   widest-hull {s} v = record {

@@ -104,7 +104,8 @@ from-between s p (q ∷ Q) b i f = from-between (betterOf s (ordered p q)) p Q
 of-between : {L : List Point} (s : Stretch) (Q : List Point) → Between L s → ((x : Point) → In x Q → In x L) → Between L (bestOf s Q)
 unfolding bestOf
 of-between s [] b f = b
-of-between s (p ∷ Q) b f = of-between (bestFrom s p (p ∷ Q)) Q (from-between s p (p ∷ Q) b (f p (List·Memᴰ·head refl)) f) (λ x j. f x (List·Memᴰ·tail j))
+of-between s (p ∷ Q) b f = of-between (bestFrom s p (p ∷ Q)) Q (from-between s p (p ∷ Q) b (f p (List·Memᴰ·head refl)) f)
+    (λ x j. f x (List·Memᴰ·tail j))
 
 from-first : (s : Stretch) (p : Point) (Q : List Point) → AtLeast (bestFrom s p Q) s
 unfolding bestFrom

@@ -1,8 +1,8 @@
 -- Jung's bound (02, item 11: "W × E² is at most 4S and at least 3S").
 --
 --   most-held      : two points that a disk holds are no farther apart than its diameter
---   jung-lifted    : the least bound, of a strongly minimal disk. Were all points nearer, the sum of the arms of a support set would have a positive product with
---                    each of them: all of them would lie on one side of the centre, and the disk would not be the smallest
+--   jung-lifted    : the least bound, of a strongly minimal disk. Were all points nearer, the sum of the arms of a support set would have a positive
+--                    product with each of them: all of them would lie on one side of the centre, and the disk would not be the smallest
 --   jung-most, jung-least : W·E² ≤ 4S and 3S ≤ W·E², for d the smallest disk of P and s its widest stretch
 use mathlib.Core.Path.{_≡_, refl, sym, _∙_, subst}
 use mathlib.Core.Logic.{_⊎_, inl, inr}
@@ -39,9 +39,10 @@ arms-apart : (F : Lifted) (p q : Point) → (F .e *ℤ F .e) *ℤ norm (q .x -�
     ≡ dot (arm F p) (arm F p) +ℤ dot (arm F q) (arm F q) -ℤ pos 2 *ℤ dot (arm F p) (arm F q)
 arms-apart F p q = ring (F .e ∷ F .cx ∷ F .cy ∷ p .x ∷ p .y ∷ q .x ∷ q .y ∷ []) (search poly depth 30) tt
 
-near-by : (e n a b ab s W : ℤ) → (e *ℤ e) *ℤ n ≡ a +ℤ b -ℤ pos 2 *ℤ ab → a ≡ s → b ≡ s → n ≼ W → W *ℤ (e *ℤ e) ≺ pos 3 *ℤ s → pos 0 ≺ pos 2 *ℤ ab +ℤ s
-near-by e n a b ab s W q ha hb hn h = positive (e ∷ n ∷ a ∷ b ∷ ab ∷ s ∷ W ∷ []) (lt h ⊞ sq e ⊠ le hn ⊞ eq (pos 1) q ⊞ eq (pos 1) ha ⊞ eq (pos 1) hb)
-    (search poly depth 30) tt
+near-by : (e n a b ab s W : ℤ) → (e *ℤ e) *ℤ n ≡ a +ℤ b -ℤ pos 2 *ℤ ab → a ≡ s → b ≡ s → n ≼ W
+    → W *ℤ (e *ℤ e) ≺ pos 3 *ℤ s → pos 0 ≺ pos 2 *ℤ ab +ℤ s
+near-by e n a b ab s W q ha hb hn h = positive (e ∷ n ∷ a ∷ b ∷ ab ∷ s ∷ W ∷ [])
+    (lt h ⊞ sq e ⊠ le hn ⊞ eq (pos 1) q ⊞ eq (pos 1) ha ⊞ eq (pos 1) hb) (search poly depth 30) tt
 
 -- an arm and the sum of three: x is the arm's square, y and z are its products with the other two
 with-two : (x y z s : ℤ) → x ≡ s → pos 0 ≺ pos 2 *ℤ y +ℤ s → pos 0 ≺ pos 2 *ℤ z +ℤ s → pos 0 ≺ x +ℤ y +ℤ z
@@ -132,7 +133,8 @@ jung-lifted {P} {F} m W most = go (≤-or-< (pos 3 *ℤ squaredRadius F) (W *ℤ
 
 -- ---- of a list's smallest disk
 
-least-divided : (W g E S e s : ℤ) → pos 0 ≺ g *ℤ g → E ≡ g *ℤ e → S ≡ (g *ℤ g) *ℤ s → pos 3 *ℤ S ≼ W *ℤ (E *ℤ E) → pos 3 *ℤ s ≼ W *ℤ (e *ℤ e)
+least-divided : (W g E S e s : ℤ) → pos 0 ≺ g *ℤ g → E ≡ g *ℤ e → S ≡ (g *ℤ g) *ℤ s
+    → pos 3 *ℤ S ≼ W *ℤ (E *ℤ E) → pos 3 *ℤ s ≼ W *ℤ (e *ℤ e)
 least-divided W g E S e s hg he hs h = nonneg-by (W ∷ g ∷ E ∷ S ∷ e ∷ s ∷ []) (g *ℤ g) hg
     (le h ⊞ eq (pos 3) hs ⊞ eq (negℤ (W *ℤ (E +ℤ g *ℤ e))) he) (search poly depth 30) tt
 
@@ -142,7 +144,8 @@ most-held : (ax ay bx by x y e s : ℤ)
     → (bx *ℤ e -ℤ x) *ℤ (bx *ℤ e -ℤ x) +ℤ (by *ℤ e -ℤ y) *ℤ (by *ℤ e -ℤ y) ≼ s
     → norm (bx -ℤ ax) (by -ℤ ay) *ℤ (e *ℤ e) ≼ pos 4 *ℤ s
 most-held ax ay bx by x y e s ha hb = nonneg (ax ∷ ay ∷ bx ∷ by ∷ x ∷ y ∷ e ∷ s ∷ [])
-    (nn 2 ⊠ le ha ⊞ nn 2 ⊠ le hb ⊞ sq ((ax *ℤ e -ℤ x) +ℤ (bx *ℤ e -ℤ x)) ⊞ sq ((ay *ℤ e -ℤ y) +ℤ (by *ℤ e -ℤ y))) (search poly depth 30) tt
+    (nn 2 ⊠ le ha ⊞ nn 2 ⊠ le hb ⊞ sq ((ax *ℤ e -ℤ x) +ℤ (bx *ℤ e -ℤ x)) ⊞ sq ((ay *ℤ e -ℤ y) +ℤ (by *ℤ e -ℤ y)))
+    (search poly depth 30) tt
 
 pub jung-most : {P : List Point} {d : Disk} {s : Stretch} → Smallest P d → Widest P s → s .w * (d .e * d .e) ≤ 4 * d .s
 unfolding holds
@@ -156,7 +159,8 @@ jung-most {P} {d} {s} m w = le-pos (subst (λ (z : ℤ). z *ℤ pos (d .e * d .e
 pub jung-least : (P : List Point) {d : Disk} {s : Stretch} → Smallest P d → Widest P s → 3 * d .s ≤ s .w * (d .e * d .e)
 jung-least [] m w = absurd (List·Memᴰ·not-nil (w .a-in))
 jung-least (p ∷ P) {d} {s} m w = le-pos (least-divided (pos (s .w)) (pos (v .g)) (F .e) (squaredRadius F) (pos (d .e)) (pos (d .s)) (square-factor v)
-    (v .e-is) (v .s-is) (jung-lifted (mtf-strong p P) (pos (s .w)) (λ q r i j. subst (λ (z : ℤ). z ≼ pos (s .w)) (apart-is q r) (pos-le (w .most q r i j)))))
+    (v .e-is) (v .s-is) (jung-lifted (mtf-strong p P) (pos (s .w))
+    (λ q r i j. subst (λ (z : ℤ). z ≼ pos (s .w)) (apart-is q r) (pos-le (w .most q r i j)))))
   where
     F : Lifted
     F = liftedMtf (p ∷ P) .disk

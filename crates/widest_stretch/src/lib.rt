@@ -1,7 +1,7 @@
 // The widest stretch of a letter: the two points of a list that are farthest apart (02, item 11).
 //
-// The ends of a widest stretch are corners of the convex hull. So a long list is reduced to its hull first, in a copy; for a short one this would take longer than
-// all its pairs.
+// The ends of a widest stretch are corners of the convex hull. So a long list is reduced to its hull first, in a copy; for a short one this
+// would take longer than all its pairs.
 use answers::Refusal;
 use engine::Checked;
 use stretches::Stretch;

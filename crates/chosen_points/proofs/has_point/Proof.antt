@@ -1,15 +1,14 @@
 -- `chosen_points::has_point` meets its contract. The loop's invariant: p is one of the points exactly where it is one of those from place i on.
 use mathlib.Core.Path.{_≡_, refl, sym, ap, _∙_}
 use mathlib.Core.Bool.{Bool, false, _||_}
-use mathlib.Core.List.{List, []}
+use mathlib.Core.List.{List}
 use Prim.Native.Nat.{ℕ, _+_, _-_, _*_, _/_, _≤_}
 use native.Mathlib.Omega.{arith}
 use lib.IntN.{ℤ}
 use lib.ListN.{length, drop}
 use Rattle.geometry.specs.declared.Point.{Point}
 use Rattle.geometry.specs.Points.{points, pointAt}
-use Rattle.geometry.proofs.PointLists.{firstPoints-whole}
-use Rattle.geometry.proofs.PointRows.{points-from, firstPoints-end}
+use Rattle.geometry.proofs.PointRows.{points-from, points-end}
 use Rattle.point_lists.specs.Sets.{same, has}
 use Rattle.chosen_points.proofs.has_point.Statement.{statement}
 use Rattle.chosen_points.proofs.has_point.Tie as tie
@@ -26,11 +25,7 @@ has-next l i p fits = ap (λ (Q : List Point). has Q p) (points-from i l fits)
 
 has-end : (l : List ℤ) (i : ℕ) (p : Point) → length l / 2 ≤ i → has (drop i (points l)) p ≡ false
 unfolding has
-has-end l i p h =
-    let n = length l / 2 in
-    let none : drop i (points l) ≡ [] =
-    ap (drop i) (sym (firstPoints-whole n l (omega arith) (omega arith))) ∙ firstPoints-end n i l (omega arith) h in
-    ap (λ (Q : List Point). has Q p) none
+has-end l i p h = ap (λ (Q : List Point). has Q p) (points-end i l h)
 
 -- the test of point i
 module _ (c : tie.After-is-same Inv-loop μ-loop) where

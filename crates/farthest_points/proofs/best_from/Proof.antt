@@ -31,8 +31,10 @@ better-of-requires : tie.Need-better-of-requires Inv-loop μ-loop
 better-of-requires c κs =
     let at = c .before .before in
     let s = at .before .before in
-    let l = s .args .list .now in
-    (inside-at l (s .args .i) (at .before .point-at .ensures) (s .pre .1) (s .pre .0), inside-at l (at .loop .j) (c .point-at2 .ensures) (s .pre .1) (omega arith))
+    let l = s .args .list .now in (
+      inside-at l (s .args .i) (at .before .point-at .ensures) (s .pre .1) (s .pre .0),
+      inside-at l (at .loop .j) (c .point-at2 .ensures) (s .pre .1) (omega arith),
+    )
 
 add-j : tie.Need-add-j Inv-loop μ-loop
 add-j c = omega arith

@@ -19,7 +19,8 @@ returns c =
     let r = c .before .before in
     let s = r .before in
     let l = s .args .list .now in
-    sym (too-near 0 (s .args .s) (pointAt l (s .args .i)) (drop (s .args .i) (points l)) (subst (λ (m : ℕ). m < s .args .s .w) (r .reach .ensures) (c .if1 .taken)))
+    sym (too-near 0 (s .args .s) (pointAt l (s .args .i)) (drop (s .args .i) (points l))
+    (subst (λ (m : ℕ). m < s .args .s .w) (r .reach .ensures) (c .if1 .taken)))
 
 best-from-requires : tie.Need-best-from-requires
 best-from-requires c κs = search needs

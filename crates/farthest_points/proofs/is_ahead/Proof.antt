@@ -22,7 +22,8 @@ returns-2 : tie.Need-returns-2
 unfolding ahead
 returns-2 c =
     let first = c .before .before .before in
-    rw (sym (first .before .is-before .ensures) ∙ first .if1 .left, sym (c .before .before .is-same .ensures) ∙ c .before .if2 .taken) (c .is-before2 .ensures)
+    rw (sym (first .before .is-before .ensures) ∙ first .if1 .left, sym (c .before .before .is-same .ensures) ∙ c .before .if2 .taken)
+    (c .is-before2 .ensures)
 
 returns-3 : tie.Need-returns-3
 unfolding ahead

@@ -30,8 +30,10 @@ squared-distance-requires : tie.Need-squared-distance-requires Inv-loop μ-loop
 squared-distance-requires c κs =
     let at = c .before .before in
     let s = at .before .before in
-    let l = s .args .list .now in
-    (inside-at l (s .args .i) (at .before .point-at .ensures) (s .pre .1) (s .pre .0), inside-at l (at .loop .j) (c .point-at2 .ensures) (s .pre .1) (omega arith))
+    let l = s .args .list .now in (
+      inside-at l (s .args .i) (at .before .point-at .ensures) (s .pre .1) (s .pre .0),
+      inside-at l (at .loop .j) (c .point-at2 .ensures) (s .pre .1) (omega arith),
+    )
 
 greater-requires : tie.Need-greater-requires Inv-loop μ-loop
 greater-requires c κs = tt

@@ -1,10 +1,9 @@
 -- `farthest_points::squared_distance` meets its contract: nothing wraps, and a sum of squares can be cast.
 use mathlib.Core.Path.{sym, ap, subst}
-use Prim.Native.Nat.{_^_, _<_}
 use native.Mathlib.Omega.{arith}
 use lib.Dec.{T}
-use lib.IntN.{ℤ, pos, negsuc, natAbs, _+ℤ_, _-ℤ_, _*ℤ_}
-use lib.Signed.{nonNeg}
+use lib.IntN.{ℤ, pos, natAbs, _+ℤ_, _-ℤ_, _*ℤ_}
+use lib.Signed.{nonNeg, yes-nonNeg, natAbs-le}
 use mir.Syntax.{w16, w32}
 use mir.Val.{Fits, SFits, toZ, ofZ}
 use Rattle.integers.specs.Order.{_≼_, Within}
@@ -53,8 +52,7 @@ abbrev Castable : ℤ → Type 0
 Castable z = T (nonNeg z) × Fits w32 (natAbs z)
 
 castable : (z : ℤ) → pos 0 ≼ z → SFits w32 z → Castable z
-castable (pos n) h f = let small : n < 2 ^ 31 = f .sfits in (tt, record { fits = omega arith })
-castable (negsuc n) h f = absurd (h .le)
+castable z h f = (yes-nonNeg h, record { fits = omega (arith, natAbs-le z (f .sfits)) })
 
 abbrev start : tie.After-struct-told4 → tie.Start
 start c = c .before .before .before .before .before .before .before .before
