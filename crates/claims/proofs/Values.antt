@@ -56,7 +56,8 @@ use Rattle.preview.proofs.Exact.{preview-exact}
 use Rattle.preview.proofs.Finite.{has-finite, round-finite}
 use Rattle.rules.specs.Row.{AllKept, GoesBy}
 use Rattle.rules.specs.Rules.{Bytes, loaderRow, sheetRow, Recordable, IsRecordOf, current, old}
-use Rattle.claims.proofs.Records.{record-long, written-checked}
+use Rattle.record_writer.proofs.ByteLaws.{record-long}
+use Rattle.claims.proofs.Records.{written-checked}
 use Rattle.claims.specs.Values.{glyphBytes, IsPart, LeastRadius, PreviewIsRight, bits, shownBy, Values}
 use Rattle.rules.proofs.RowLaws.{row-through}
 use Rattle.rules.proofs.Recordables.{recordable-valid, checked-in, rules-in, checked-rules, rules-checked}
