@@ -38,7 +38,8 @@ use Rattle.geometry.proofs.PointLists.{length-flat}
 use Rattle.description.specs.Description.{named, loadOf, listAfter}
 use Rattle.description.proofs.Loading.{after-given}
 use Rattle.description.proofs.AcceptedTexts.{accepted-count}
-use Rattle.sheet.specs.Sheet.{Place, glyphOf, partOf}
+use Rattle.directory.specs.Directory.{Place}
+use Rattle.sheet.specs.Sheet.{glyphOf, partOf}
 use Rattle.sheet.proofs.Parts.{given-pair, given-within, given-part}
 use Rattle.belonging.specs.Belonging.{Belong}
 use Rattle.disk_checks.specs.Checks.{checkIn, checkOf}
