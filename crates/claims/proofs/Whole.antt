@@ -35,7 +35,7 @@ use Rattle.record_writer.specs.Writing as writing
 use Rattle.preview.specs.declared.Preview.{Preview}
 use Rattle.preview.specs.Preview.{previewOf}
 use Rattle.letter.specs.Letter.{room, enclosureIn, enclosureOf, Letter, letter, letterOf, letterIn, bufferAfter}
-use Rattle.letter.proofs.Whole.{enclosure-given, enclosure-refused, enclosure-checked}
+use Rattle.letter.proofs.Whole.{enclosure-given, enclosure-refused, enclosure-checked, letter-named}
 use Rattle.rules.specs.Row.{_unless_, GoesBy}
 use Rattle.rules.specs.Rules.{loaderRow}
 use Rattle.rules.proofs.RowLaws.{row-end, row-step, row-through, row-then}
@@ -180,7 +180,7 @@ behind t b g h =
       count = loads .0;
       loads = loads .1;
       enough = ltb-false (length b) recordLength (eight .0);
-      is = sym (given-same (one .1 .1)) ∙ ap letter (same-given (one .1 .0) (enclosure-given t room (loads .0) (loads .1)));
+      is = letter-named t g (eight .1);
     }
 
 letter-bytes : (t b : List ℕ) (g : Letter) → letterIn t b ≡ given g → (l : List ℤ) → 8192 ≤ length l

@@ -8,7 +8,8 @@
 --   enclosure-checked  : the writer takes what they give
 --   letter-enclosed, letter-unenclosed : the letter is what they give, or their refusal
 --   letter-loaded, letter-unloaded : and so by what the loader answers in a list that is long enough
---   letter-long        : a letter's record has its length
+--   letter-named       : a letter is that of the points which the description names
+--   letter-long        : and its record has its length
 --   letter-short       : a short buffer is refused first
 --   letter-given, letter-refused : in one that is long enough the letter is theirs
 --   letter-written     : the buffer as the writer leaves it
@@ -21,7 +22,7 @@ use borrow.Author.Tests.{lt-ltb, le-ltb}
 use lib.IntN.{ℤ, pos}
 use lib.ListN.{length, take, length-replicate}
 use Rattle.answers.specs.Outcome.{Outcome, given, refused, andThen}
-use Rattle.answers.proofs.OutcomeLaws.{not-given, given-same, both-given}
+use Rattle.answers.proofs.OutcomeLaws.{not-given, given-same, same-given, both-given}
 use Rattle.integers.proofs.Tests.{true-test}
 use Rattle.geometry.specs.declared.Point.{Point}
 use Rattle.geometry.specs.EmBox.{allInEmBox}
@@ -117,6 +118,13 @@ module _ (text : List ℕ) where
 
     pub letter-unloaded : (k : ℕ) → loadOf text list ≡ refused k → letterOf text ≡ refused k
     letter-unloaded k h = letter-unenclosed k (sym (enclosure-any text list long) ∙ enclosure-refused text list k h)
+
+  pub letter-named : (g : Letter) → letterOf text ≡ given g → g ≡ letter (enclosure (named text))
+  letter-named g h = by-load (loadOf text room) refl
+    where
+      by-load : (o : Outcome ℕ) → loadOf text room ≡ o → g ≡ letter (enclosure (named text))
+      by-load (given n) e = same-given h (letter-loaded room room-long n e)
+      by-load (refused k) e = absurd (not-given (sym (letter-unloaded room room-long k e) ∙ h))
 
   pub letter-long : (g : Letter) → letterOf text ≡ given g → length (g .bytes) ≡ recordLength
   unfolding letterOf

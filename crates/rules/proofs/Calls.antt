@@ -4,7 +4,7 @@
 use mathlib.Core.Path.{_≡_, refl, sym, ap, ap₂, _∙_, subst}
 use mathlib.Core.Logic.{inl, inr}
 use mathlib.Core.Bool.{Bool, true, false, not, true≢false}
-use mathlib.Core.List.{List, [], _∷_}
+use mathlib.Core.List.{List, [], _∷_, _++_}
 use Prim.Native.Nat.{ℕ, suc, _*_, _/_, _%_, _^_, _≤_, _<_}
 use native.Mathlib.Omega.{arith}
 use borrow.Author.Tests.{ltb-true, ltb-false, leb-true, leb-false, eqb-true, eqb-false, eq-eqb, not-true, not-false}
@@ -26,7 +26,6 @@ use Rattle.drawn_points.specs.Appending.{placeOf, takenOf, appendOf}
 use Rattle.directory.specs.Directory.{count, directoryEnd, pair, pairs, follow, countOf}
 use Rattle.directory.proofs.Rows.{count-known}
 use Rattle.sheet.specs.Sheet.{glyphOf}
-use Rattle.run_steps.specs.Steps.{State}
 use Rattle.sheet_run.specs.Running.{ran, runOf}
 use Rattle.engine.specs.Engine.{enclosure, encloseOf}
 use Rattle.engine.proofs.Checks.{even-length}
@@ -98,8 +97,10 @@ directory s =
     row-end (count s))))
 
 -- a call that goes on with the count of the glyphs
-with-count : {A : Type 0} (s : List ℕ) (next : List Rule) (f : ℕ → Outcome A) → GoesBy next (f (count s)) → GoesBy (directoryRow s ++ next) (andThen (countOf s) f)
-with-count s next f g = row-then (directoryRow s) next f (countOf s) (directory s) (λ n e. subst (λ (m : ℕ). GoesBy next (f m)) (sym (count-known s n e .all)) g)
+with-count : {A : Type 0} (s : List ℕ) (next : List Rule) (f : ℕ → Outcome A) → GoesBy next (f (count s))
+    → GoesBy (directoryRow s ++ next) (andThen (countOf s) f)
+with-count s next f g =
+    row-then (directoryRow s) next f (countOf s) (directory s) (λ n e. subst (λ (m : ℕ). GoesBy next (f m)) (sym (count-known s n e .all)) g)
 
 pub sheet : (s : List ℕ) (k : ℕ) → GoesBy (sheetRow s k) (glyphOf s k)
 unfolding glyphOf

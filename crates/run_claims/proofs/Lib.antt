@@ -1,0 +1,3 @@
+pub mod Glyphs
+pub mod Passes
+pub mod SheetRun
