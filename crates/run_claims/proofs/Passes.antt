@@ -6,10 +6,10 @@
 --   added o q       == the bytes that it adds
 --   number-is       : number k is what glyph k got
 --   records-front   : what was written stays in front of what comes
---   Along ns k      == the state behind k glyphs, by their numbers ns
+--   Along s t ns k q == q is the state behind k glyphs, by their numbers ns
 --   along           : it is so of each k
---   Kept t u k      == with the larger allowance u the state behind k glyphs is the same but for what is left
---   kept            : it is so as long as no glyph needed more
+--   Kept p q        == no glyph needed more yet, the state q has what p has, and as much left or more
+--   kept            : so it is with a larger allowance, as long as no glyph needed more with the other
 use mathlib.Core.Path.{_≡_, refl, sym, ap, ap₂, _∙_, subst}
 use mathlib.Core.Bool.{Bool, true, false, _&&_, true≢false}
 use mathlib.Core.List.{List, [], _∷_, _++_, append-nil, append-assoc}
@@ -45,7 +45,7 @@ abbrev pub noted : Outcome Letter → State → ℕ
 noted (given g) q = verdict (enough g q)
 noted (refused n) q = n
 
-abbrev bytesIf : Bool → Letter → List ℕ
+abbrev pub bytesIf : Bool → Letter → List ℕ
 bytesIf true g = g .bytes
 bytesIf false g = []
 
@@ -101,16 +101,17 @@ module _ (s : List ℕ) where
     where
       none : (k : ℕ) → k < 0 → ⊥
       none k h = omega arith
-  number-is t (suc m) k h = ap (λ (l : List ℕ). numberAt l k) (step-numbers (glyph s m) (up t m)) ∙ by-place (ltb k m) refl
+  number-is t (suc m) k h = ap (λ (l : List ℕ). numberAt l k) (step-numbers (glyph s m) (up t m)) ∙ by-place (ltb k m) refl (number-is t m k)
     where
       last : ℕ
       last = noted (glyph s m) (up t m)
 
-      by-place : (b : Bool) → ltb k m ≡ b → numberAt (up t m .numbers ++ (last ∷ [])) k ≡ noted (glyph s k) (up t k)
-      by-place true e =
+      by-place : (b : Bool) → ltb k m ≡ b → (k < m → numberAt (up t m .numbers) k ≡ noted (glyph s k) (up t k))
+          → numberAt (up t m .numbers ++ (last ∷ [])) k ≡ noted (glyph s k) (up t k)
+      by-place true e earlier =
           let before : k < m = ltb-true k m e in
-          List·getD-append (up t m .numbers) (last ∷ []) 0 k (omega (arith, up-numbers t m)) ∙ number-is t m k before
-      by-place false e =
+          List·getD-append (up t m .numbers) (last ∷ []) 0 k (omega (arith, up-numbers t m)) ∙ earlier before
+      by-place false e earlier =
           let at : m ≡ k = omega (arith, ltb-false k m e) in
           getD-at (up t m .numbers) last [] 0 k (up-numbers t m ∙ at) ∙ ap (λ (i : ℕ). noted (glyph s i) (up t i)) at
 
@@ -130,71 +131,125 @@ module _ (s : List ℕ) where
 
 -- ---- the state by the numbers
 
-module _ (s : List ℕ) (short : length s ≤ 65535) (t : ℕ) where
-  pub record Along (ns : List ℕ) (k : ℕ) : Type 0 where
-    pub left-is : up s t k .left + spentTo s ns k ≡ t
-    pub worked-is : up s t k .worked ≡ workedTo ns k
-    pub long : length (up s t k .records) ≡ recordLength * up s t k .worked
-    pub running : ((i : ℕ) → i < k → numberAt ns i ≡ 16 → ⊥) → up s t k .going ≡ true
-    pub stopped : (i : ℕ) → i < k → numberAt ns i ≡ 16 → up s t k .going ≡ false
+pub record Along (s : List ℕ) (t : ℕ) (ns : List ℕ) (k : ℕ) (q : State) : Type 0 where
+  pub left-is : q .left + spentTo s ns k ≡ t
+  pub worked-is : q .worked ≡ workedTo ns k
+  pub long : length (q .records) ≡ recordLength * q .worked
+  pub running : ((i : ℕ) → i < k → numberAt ns i ≡ 16 → ⊥) → q .going ≡ true
+  pub stopped : (i : ℕ) → i < k → numberAt ns i ≡ 16 → q .going ≡ false
 
-  -- number k, and the terms that it adds
-  module _ (ns : List ℕ) (k n : ℕ) (is : numberAt ns k ≡ n) where
-    spent-next : (b : Bool) → eqb n 0 ≡ b → spentTo s ns (suc k) ≡ spentTo s ns k + when b (testsOf (partAt s k))
-    unfolding spentTo
-    spent-next b e = ap (λ (c : Bool). spentTo s ns k + when c (testsOf (partAt s k))) (ap (λ (m : ℕ). eqb m 0) is ∙ e)
+-- number k, and what it adds
+module _ (s ns : List ℕ) (k n : ℕ) (is : numberAt ns k ≡ n) where
+  spent-next : (b : Bool) → eqb n 0 ≡ b → spentTo s ns (suc k) ≡ spentTo s ns k + when b (testsOf (partAt s k))
+  unfolding spentTo
+  spent-next b e = ap (λ (c : Bool). spentTo s ns k + when c (testsOf (partAt s k))) (ap (λ (m : ℕ). eqb m 0) is ∙ e)
 
-    worked-next : (b : Bool) → eqb n 0 ≡ b → workedTo ns (suc k) ≡ workedTo ns k + when b 1
-    unfolding workedTo
-    worked-next b e = ap (λ (c : Bool). workedTo ns k + when c 1) (ap (λ (m : ℕ). eqb m 0) is ∙ e)
+  worked-next : (b : Bool) → eqb n 0 ≡ b → workedTo ns (suc k) ≡ workedTo ns k + when b 1
+  unfolding workedTo
+  worked-next b e = ap (λ (c : Bool). workedTo ns k + when c 1) (ap (λ (m : ℕ). eqb m 0) is ∙ e)
 
-    -- that one of the first k + 1 numbers is 16
-    among : {A : Type 0} → ((i : ℕ) → i < k → numberAt ns i ≡ 16 → A) → (n ≡ 16 → A) → (i : ℕ) → i < suc k → numberAt ns i ≡ 16 → A
-    among {A} before at i h e = by-place (ltb i k) refl
-      where
-        by-place : (b : Bool) → ltb i k ≡ b → A
-        by-place true f = before i (ltb-true i k f) e
-        by-place false f = let same : i ≡ k = omega (arith, ltb-false i k f) in at (sym is ∙ ap (numberAt ns) (sym same) ∙ e)
+  -- one of the first k + 1 numbers is 16
+  among : {A : Type 0} → ((i : ℕ) → i < k → numberAt ns i ≡ 16 → A) → (n ≡ 16 → A) → (i : ℕ) → i < suc k → numberAt ns i ≡ 16 → A
+  among {A} before at i h e = by-place (ltb i k) refl
+    where
+      by-place : (b : Bool) → ltb i k ≡ b → A
+      by-place true f = before i (ltb-true i k f) e
+      by-place false f = let same : i ≡ k = omega (arith, ltb-false i k f) in at (sym is ∙ ap (numberAt ns) (sym same) ∙ e)
 
-  not-16 : _≡_ {A = ℕ} 0 16 → ⊥
-  not-16 e = omega arith
+worked-not : _≡_ {A = ℕ} 0 16 → ⊥
+worked-not e = omega arith
 
-  module _ (ns : List ℕ) (k : ℕ) (a : Along ns k) where
-    faulty-next : (n : ℕ) → glyph s k ≡ refused n → numberAt ns k ≡ n → Along ns (suc k)
-    unfolding up step
-    faulty-next n e is =
-        let own = sound s short k .own n e in
-        let other = ne-eqb n 0 (λ z. omega (arith, own .0)) in
-        rw e (record {
-          left-is = omega (arith, a .left-is, spent-next ns k n is false other);
-          worked-is = a .worked-is ∙ sym (worked-next ns k n is false other ∙ add-zero (workedTo ns k));
-          long = a .long;
-          running = λ h. a .running (λ i l. h i (omega arith));
-          stopped = among ns k n is (a .stopped) (λ z. absurd (omega (arith, own .1)));
-        })
+module _ (s : List ℕ) (t : ℕ) (ns : List ℕ) (k : ℕ) (q : State) (a : Along s t ns k q) where
+  faulty-along : (n : ℕ) → 2 ≤ n → n ≤ 5 → numberAt ns k ≡ n → Along s t ns (suc k) (step (refused n) q)
+  unfolding step
+  faulty-along n low high is =
+      let other = ne-eqb n 0 (λ z. no n low z) in
+      record {
+        left-is = omega (arith, a .left-is, spent-next s ns k n is false other);
+        worked-is = a .worked-is ∙ sym (worked-next s ns k n is false other ∙ add-zero (workedTo ns k));
+        long = a .long;
+        running = λ h. a .running (λ i l. h i (omega arith));
+        stopped = among s ns k n is (a .stopped) (λ z. absurd (high-not n high z));
+      }
+    where
+      no : (n : ℕ) → 2 ≤ n → n ≡ 0 → ⊥
+      no n l e = omega arith
 
-    worked-step : (g : Letter) → glyph s k ≡ given g → enough g (up s t k) ≡ true → numberAt ns k ≡ 0 → Along ns (suc k)
-    unfolding up step tried
-    worked-step g e test is =
-        let q = up s t k in
-        let going = first (q .going) (leb (g .tests) (q .left)) test in
-        let less : g .tests ≤ q .left = leb-true (g .tests) (q .left) (rest (q .going) (leb (g .tests) (q .left)) test) in
-        let known = sound s short k in
-        rw (e, test) (record {
-          left-is = omega (arith, a .left-is, spent-next ns k 0 is true refl, known .tests-are g e, less);
-          worked-is = ap (λ (w : ℕ). w + 1) (a .worked-is) ∙ sym (worked-next ns k 0 is true refl);
-          long = length-append (q .records) (g .bytes) ∙ omega (arith, a .long, known .long g e);
-          running = λ h. refl;
-          stopped = among ns k 0 is (λ i l z. absurd (true≢false (sym going ∙ a .stopped i l z))) (λ z. absurd (not-16 z));
-        })
+      high-not : (n : ℕ) → n ≤ 5 → n ≡ 16 → ⊥
+      high-not n l e = omega arith
 
-    passed-step : (g : Letter) → glyph s k ≡ given g → enough g (up s t k) ≡ false → numberAt ns k ≡ 16 → Along ns (suc k)
-    unfolding up step tried
-    passed-step g e test is =
-        rw (e, test) (record {
-          left-is = omega (arith, a .left-is, spent-next ns k 16 is false refl);
-          worked-is = a .worked-is ∙ sym (worked-next ns k 16 is false refl ∙ add-zero (workedTo ns k));
-          long = a .long;
-          running = λ h. absurd (h k (omega arith) is);
-          stopped = λ i l z. refl;
-        })
+  letter-along : (g : Letter) → g .tests ≡ testsOf (partAt s k) → length (g .bytes) ≡ recordLength
+      → (b : Bool) → enough g q ≡ b → numberAt ns k ≡ verdict b → Along s t ns (suc k) (tried b g q)
+  unfolding tried
+  letter-along g tests long true test is =
+      let going = first (q .going) (leb (g .tests) (q .left)) test in
+      let less : g .tests ≤ q .left = leb-true (g .tests) (q .left) (rest (q .going) (leb (g .tests) (q .left)) test) in
+      record {
+        left-is = omega (arith, a .left-is, spent-next s ns k 0 is true refl);
+        worked-is = ap (λ (w : ℕ). w + 1) (a .worked-is) ∙ sym (worked-next s ns k 0 is true refl);
+        long = length-append (q .records) (g .bytes) ∙ omega (arith, a .long);
+        running = λ h. refl;
+        stopped = among s ns k 0 is (λ i l z. absurd (true≢false (sym going ∙ a .stopped i l z))) (λ z. absurd (worked-not z));
+      }
+  letter-along g tests long false test is = record {
+    left-is = omega (arith, a .left-is, spent-next s ns k 16 is false refl);
+    worked-is = a .worked-is ∙ sym (worked-next s ns k 16 is false refl ∙ add-zero (workedTo ns k));
+    long = a .long;
+    running = λ h. absurd (h k (omega arith) is);
+    stopped = λ i l z. refl;
+  }
+
+  along-next : (o : Outcome Letter) → Sound (partAt s k) o → numberAt ns k ≡ noted o q → Along s t ns (suc k) (step o q)
+  unfolding step
+  along-next (given g) sound is = letter-along g (sound .tests-are g refl) (sound .long g refl) (enough g q) refl is
+  along-next (refused n) sound is = let own = sound .own n refl in faulty-along n (own .0) (own .1) is
+
+pub along : (s : List ℕ) → length s ≤ 65535 → (t : ℕ) (ns : List ℕ) (n : ℕ) → ((k : ℕ) → k < n → numberAt ns k ≡ noted (glyph s k) (up s t k))
+    → (k : ℕ) → k ≤ n → Along s t ns k (up s t k)
+unfolding up spentTo workedTo
+along s short t ns n are zero h = record {
+  left-is = add-zero t;
+  worked-is = refl;
+  long = refl;
+  running = λ h. refl;
+  stopped = λ i l. absurd (none i l);
+}
+  where
+    none : (i : ℕ) → i < 0 → ⊥
+    none i l = omega arith
+along s short t ns n are (suc k) h =
+    along-next s t ns k (up s t k) (along s short t ns n are k (omega arith)) (glyph s k) (sound s short k) (are k (omega arith))
+
+-- ---- a larger allowance
+
+pub record Kept (p q : State) : Type 0 where
+  pub going : q .going ≡ true
+  pub less : p .left ≤ q .left
+  pub numbers : q .numbers ≡ p .numbers
+
+-- p is behind no glyph that needed more, q stands with as much left or more
+module _ (p q : State) where
+  letter-kept : (g : Letter) (b : Bool) → enough g p ≡ b → Kept p q → tried b g p .going ≡ true → Kept (tried b g p) (tried (enough g q) g q)
+  unfolding tried
+  letter-kept g true test k h =
+      let fits : g .tests ≤ p .left = leb-true (g .tests) (p .left) (rest (p .going) (leb (g .tests) (p .left)) test) in
+      let enough-too : enough g q ≡ true = rw (k .going) (le-leb (g .tests) (q .left) (omega (arith, k .less))) in
+      subst (λ (b : Bool). Kept (tried true g p) (tried b g q)) (sym enough-too)
+      (record { going = refl; less = omega (arith, k .less); numbers = ap (λ (l : List ℕ). l ++ (0 ∷ [])) (k .numbers) })
+  letter-kept g false test k h = absurd (true≢false (sym h))
+
+  step-kept : (o : Outcome Letter) → (p .going ≡ true → Kept p q) → step o p .going ≡ true → Kept (step o p) (step o q)
+  unfolding step tried
+  step-kept (given g) k h = letter-kept g (enough g p) refl (k (was (enough g p) refl h)) h
+    where
+      was : (b : Bool) → enough g p ≡ b → tried b g p .going ≡ true → p .going ≡ true
+      was true e h = first (p .going) (leb (g .tests) (p .left)) e
+      was false e h = absurd (true≢false (sym h))
+  step-kept (refused n) k h =
+      let same = k h in
+      record { going = same .going; less = same .less; numbers = ap (λ (l : List ℕ). l ++ (n ∷ [])) (same .numbers) }
+
+pub kept : (s : List ℕ) (t u : ℕ) → t ≤ u → (k : ℕ) → up s t k .going ≡ true → Kept (up s t k) (up s u k)
+unfolding up
+kept s t u h zero e = record { going = refl; less = h; numbers = refl }
+kept s t u h (suc k) e = step-kept (up s t k) (up s u k) (glyph s k) (kept s t u h k) e
