@@ -79,7 +79,9 @@ pub(crate) mod tests {
     /// What a call returned, and buffer and list after it.
     pub type After = (Result<SheetRun, Refusal>, Vec<u8>, Vec<u16>);
 
-    pub fn after(case: &RunCase, call: fn(&[u8], u64, &mut [u8], &mut [u16]) -> Result<SheetRun, Refusal>) -> After {
+    type Call = fn(&[u8], u64, &mut [u8], &mut [u16]) -> Result<SheetRun, Refusal>;
+
+    pub fn after(case: &RunCase, call: Call) -> After {
         let (mut buffer, mut numbers) = case.lent();
         let answer = call(&case.sheet, case.allowance, &mut buffer, &mut numbers);
         (answer, buffer, numbers)

@@ -346,6 +346,7 @@ mod tests {
         assert!([0, 1, 44, 46, 52, 54, 106].iter().all(|length| vectors.iter().filter(other).any(|v| v.bytes.len() == *length)));
     }
 
+    /// All but 16, which is a glyph's and stands in a list of numbers.
     #[test]
     fn every_answer_and_every_refusal_is_among_the_cases() {
         let vectors = stored();
