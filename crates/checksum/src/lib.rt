@@ -38,3 +38,17 @@ pub fn of_bytes(bytes: &[u8]) -> u64 {
     }
     sum
 }
+
+fn wide_number(n: u16) -> u64 {
+    n as u64
+}
+
+pub fn of_numbers(numbers: &[u16]) -> u64 {
+    let mut sum: u64 = 0;
+    let mut i: usize = 0;
+    while i < numbers.len() {
+        sum = mixed(sum, wide_number(numbers[i]));
+        i += 1;
+    }
+    sum
+}

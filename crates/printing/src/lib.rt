@@ -68,16 +68,16 @@ pub fn print_point(p: Point) {
     print_number(geometry::wide(p.y));
 }
 
-pub fn print_disk(d: Disk) {
+// A disk, and what stands below, as words in a line that goes on.
+pub fn put_disk(d: Disk) {
     print_text(b"disk");
     print_number(d.x);
     print_number(d.y);
     print_natural(d.e);
     print_wide(d.s);
-    print_text(b"\n");
 }
 
-pub fn print_support(t: SupportSet) {
+pub fn put_support(t: SupportSet) {
     print_text(b"rim");
     match t {
         SupportSet::One(a) => {
@@ -93,13 +93,27 @@ pub fn print_support(t: SupportSet) {
             print_point(c);
         }
     }
+}
+
+// A word and a number.
+pub fn put_count(word: &[u8], n: u64) {
+    print_text(word);
+    print_natural(n);
+}
+
+// The same as lines.
+pub fn print_disk(d: Disk) {
+    put_disk(d);
     print_text(b"\n");
 }
 
-// A line of a word and a number.
+pub fn print_support(t: SupportSet) {
+    put_support(t);
+    print_text(b"\n");
+}
+
 pub fn print_count(word: &[u8], n: u64) {
-    print_text(word);
-    print_natural(n);
+    put_count(word, n);
     print_text(b"\n");
 }
 

@@ -137,6 +137,7 @@ fn run_case(call: u8, bytes: &[u8]) {
         b'H' => hull_cases::run_hull(bytes),
         b'X' => stretch_cases::run_stretch(bytes),
         b'A' => list_cases::run_append(bytes),
+        b'G' => run_cases::run_allowed(bytes),
         b'S' => run_sheet(bytes),
         b'P' => run_part(bytes),
         b'R' => run_reader(bytes),
@@ -147,10 +148,10 @@ fn run_case(call: u8, bytes: &[u8]) {
 
 // Runs the next case, and answers whether there was one.
 fn run_next() -> bool {
-    let mut buffer = [0u8; 65538];
+    let mut buffer = [0u8; 65548];
     let case = cases::read_case(&mut buffer);
     let n = case.length;
-    if 65538 < n {
+    if 65548 < n {
         return false;
     }
     run_case(case.call, &buffer[..n]);

@@ -4,8 +4,8 @@ use mathlib.Core.Path.{sym, subst}
 use native.Mathlib.Omega.{arith}
 use lib.ListN.{length}
 use lib.Seq.{length-take-le}
-use Rattle.listing.specs.declared.Input.{Input}
-use Rattle.listing.specs.Reading.{Holds}
+use Rattle.reading.specs.declared.Input.{Input}
+use Rattle.reading.specs.Reading.{Holds}
 use borrow.Author.Needs.{needs}
 use Rattle.listing.proofs.main.Statement.{statement}
 use Rattle.listing.proofs.main.Tie as tie

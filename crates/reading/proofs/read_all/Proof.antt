@@ -1,4 +1,4 @@
--- `listing::read_all` meets its contract. The loop's invariant: the bytes read so far lie within the buffer, whose length stays.
+-- `reading::read_all` meets its contract. The loop's invariant: the bytes read so far lie within the buffer, whose length stays.
 use Prim.Native.Nat.{ℕ, _-_, _≤_}
 use mathlib.Core.Path.{_≡_, subst}
 use native.Mathlib.Omega.{arith}
@@ -6,10 +6,10 @@ use borrow.Author.Needs.{needs}
 use lib.ListN.{length}
 use borrow.Rule.Slice.PartMut.{midOf, putMid, mid-len, same-len-mid}
 use native.Mathlib.Nat.{le-refl}
-use Rattle.listing.specs.declared.Got.{Got}
-use Rattle.listing.specs.Reading.{Brings}
-use Rattle.listing.proofs.read_all.Statement.{statement}
-use Rattle.listing.proofs.read_all.Tie as tie
+use Rattle.reading.specs.declared.Got.{Got}
+use Rattle.reading.specs.Reading.{Brings}
+use Rattle.reading.proofs.read_all.Statement.{statement}
+use Rattle.reading.proofs.read_all.Tie as tie
 
 abbrev Inv-loop : tie.InvT-loop
 Inv-loop buf₀ done₀ buf done = (done ≤ length buf) × (length buf ≡ length buf₀)
