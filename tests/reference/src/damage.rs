@@ -203,7 +203,7 @@ fn placed(count: usize, random: &mut Random) -> Vec<(u16, u16)> {
 }
 
 /// An overlap, a part in the directory, parts out of order, or a part beyond the end.
-fn damage_pairs(pairs: &mut [(u16, u16)], random: &mut Random) {
+pub(crate) fn damage_pairs(pairs: &mut [(u16, u16)], random: &mut Random) {
     if pairs.is_empty() {
         return;
     }

@@ -11,6 +11,7 @@ mod hull;
 mod lists;
 mod radii;
 mod records;
+mod runs;
 mod sheets;
 mod stretch;
 mod traced;
@@ -22,6 +23,7 @@ pub use drawings::drawings;
 pub use hull::reductions;
 pub use lists::solvings;
 pub use records::{readings, writings};
+pub use runs::{runs, sheet_of};
 pub use sheets::{parts, sheets};
 pub use stretch::stretches;
 pub use traced::tracings;
@@ -48,6 +50,7 @@ mod tests {
     use crate::procedure::{self, Cover};
     use crate::record::LONG;
     use crate::refusal::Refusal;
+    use crate::run::{run_sheet, SheetRun};
     use crate::stretch::{widest_stretch, Stretch};
     use crate::traced::smallest_disk_of_traced;
     use crate::{description, drawing, engine, engine::flat, figures, record, sheet};
@@ -150,6 +153,21 @@ mod tests {
         for Edge { says, given, gives } in sheets() {
             let answer = sheet::glyph(&given.bytes, given.k.into()).map_err(Refusal::number);
             assert_eq!(answer.map(|part| (part.start, given.bytes[part].to_vec())), gives, "{says}");
+        }
+    }
+
+    #[test]
+    fn the_run_of_a_sheet_keeps_to_them() {
+        for Edge { says, given, gives } in runs() {
+            let (before, numbers_before) = given.lent();
+            let (mut buffer, mut numbers) = given.lent();
+            let answer = run_sheet(&given.sheet, given.allowance, &mut buffer, &mut numbers).map_err(Refusal::number);
+            let shown = (given.allowance, given.buffer, given.numbers, &given.sheet[..given.sheet.len().min(60)]);
+            let expected = gives.as_ref().map(|ran| SheetRun { worked: ran.worked, left: ran.left }).map_err(|number| *number);
+            assert_eq!(answer, expected, "{says}: {shown:?}");
+            let (records, list) = gives.map(|ran| (ran.records, ran.numbers)).unwrap_or_default();
+            assert!(buffer == [&records, &before[records.len()..]].concat(), "{says}: {shown:?}");
+            assert!(numbers == [&list, &numbers_before[list.len()..]].concat(), "{says}: {shown:?} {numbers:?}");
         }
     }
 

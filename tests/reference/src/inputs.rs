@@ -51,6 +51,22 @@ pub struct SheetCase {
     pub bytes: Vec<u8>,
 }
 
+/// The tests allowed, the lengths of the buffer and of the list of numbers that are lent, and a sheet.
+#[derive(Clone, Debug)]
+pub struct RunCase {
+    pub allowance: u64,
+    pub buffer: usize,
+    pub numbers: usize,
+    pub sheet: Vec<u8>,
+}
+
+impl RunCase {
+    /// The lent buffer, 238 everywhere, and the lent list, 12,321 everywhere.
+    pub fn lent(&self) -> (Vec<u8>, Vec<u16>) {
+        (vec![238; self.buffer], vec![12_321; self.numbers])
+    }
+}
+
 /// Where a part lies, and a sheet.
 pub struct PartCase {
     pub start: usize,

@@ -20,10 +20,11 @@
 //! | [`description`] | the loader |
 //! | [`drawing`] | points from a drawing program (document 02, item 2) |
 //! | [`sheet`] | the sheet opener |
+//! | [`run`] | a whole sheet worked under one allowance of tests (document 02, item 12), and drawn sheets for it |
 //! | [`belonging`] | whether points belong to a disk (document 02, item 9), by its words |
 //! | [`record`] | its two forms, validity, writer and reader |
 //! | [`figures`] | the cutting radius and the preview |
-//! | [`listing`] | what the listing program prints |
+//! | [`listing`], [`sheet_listing`] | what the listing programs print for a description, and for a sheet |
 //! | [`inputs`] | what a call is given |
 //! | [`random`], [`lists`], [`damage`] | drawn lists, descriptions, sheets and records, each by its seed |
 //! | [`worst`] | lists that cost many tests |
@@ -52,7 +53,9 @@ pub mod procedure;
 pub mod random;
 pub mod record;
 pub mod refusal;
+pub mod run;
 pub mod sheet;
+pub mod sheet_listing;
 pub mod smallest;
 pub mod stored;
 pub mod stretch;

@@ -37,6 +37,9 @@ pub const MOST_POINTS: usize = 4_096;
 pub const MOST_TRACED: usize = 1_024;
 pub const MOST_TOLERANCE: i16 = 50;
 
+/// A sheet is run with at most this many tests (document 02, item 12).
+pub const MOST_ALLOWANCE: u64 = (1 << 60) - 1;
+
 /// The numbers that the loader's list must have room for.
 pub const LIST_LENGTH: usize = 2 * MOST_POINTS;
 

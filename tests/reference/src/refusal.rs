@@ -18,6 +18,8 @@ pub enum Refusal {
     NoDisk = 13,
     BadTolerance = 14,
     PointsDoNotFit = 15,
+    NotAllowed = 16,
+    TooMuch = 17,
 }
 
 impl Refusal {

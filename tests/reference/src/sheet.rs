@@ -6,6 +6,11 @@ use std::ops::Range;
 
 /// Where part k lies in the sheet: refusals 1, 6, 10.
 pub fn glyph(sheet: &[u8], k: usize) -> Result<Range<usize>, Refusal> {
+    parts(sheet)?.get(k).cloned().ok_or(Refusal::NoGlyph)
+}
+
+/// Where every part lies in the sheet: refusals 1, 6.
+pub fn parts(sheet: &[u8]) -> Result<Vec<Range<usize>>, Refusal> {
     if sheet.len() > MOST_BYTES {
         return Err(Refusal::TooLong);
     }
@@ -13,7 +18,7 @@ pub fn glyph(sheet: &[u8], k: usize) -> Result<Range<usize>, Refusal> {
     if !are_in_order(&parts, sheet.len()) {
         return Err(Refusal::BadSheet);
     }
-    parts.get(k).cloned().ok_or(Refusal::NoGlyph)
+    Ok(parts)
 }
 
 /// The bytes of the sheet at a place; none where they do not all lie in it.
@@ -51,6 +56,19 @@ fn are_in_order(parts: &[Range<usize>], length: usize) -> bool {
     free <= length
 }
 
+/// The pairs and the body of a sheet with these parts, each behind the bytes of a gap.
+pub fn laid_out(gaps_and_parts: &[(Vec<u8>, Vec<u8>)]) -> (Vec<(u16, u16)>, Vec<u8>) {
+    let directory = 2 + 4 * gaps_and_parts.len();
+    let number = |length: usize| u16::try_from(length).expect("a place in a sheet has 16 bits");
+    let (mut pairs, mut body) = (Vec::new(), Vec::new());
+    for (gap, part) in gaps_and_parts {
+        body.extend_from_slice(gap);
+        pairs.push((number(directory + body.len()), number(part.len())));
+        body.extend_from_slice(part);
+    }
+    (pairs, body)
+}
+
 /// A sheet's bytes: the directory as given, whatever it says, then the body.
 pub fn with_directory(pairs: &[(u16, u16)], body: &[u8]) -> Vec<u8> {
     let count = u16::try_from(pairs.len()).expect("a count has 16 bits");
@@ -83,6 +101,15 @@ mod tests {
         assert_eq!(opened(&pairs, &body, 3), Ok(vec![]));
         assert_eq!(opened(&pairs, &body, 4), Err(10));
         assert_eq!(opened(&pairs, &body, usize::MAX), Err(10));
+    }
+
+    #[test]
+    fn parts_are_laid_out_behind_their_gaps() {
+        let bytes = |text: &str| text.as_bytes().to_vec();
+        let (pairs, body) =
+            laid_out(&[("..", "ab"), ("", ""), ("", "c"), (".", "")].map(|(gap, part)| (bytes(gap), bytes(part))));
+        assert_eq!((&pairs[..], &body[..]), (&[(20, 2), (22, 0), (22, 1), (24, 0)][..], &b"..abc."[..]));
+        assert_eq!(parts(&with_directory(&pairs, &body)), Ok(vec![20..22, 22..22, 22..23, 24..24]));
     }
 
     #[test]

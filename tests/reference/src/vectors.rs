@@ -2,6 +2,8 @@
 //!
 //! `tests/README.md` has the layout.
 
+mod runs;
+
 use crate::chosen::{smallest_disk_through, Chosen};
 use crate::description;
 use crate::drawing::{self, DrawnPoint};
@@ -18,6 +20,8 @@ use crate::sheet;
 use crate::stretch::{widest_stretch, Stretch};
 use crate::traced::smallest_disk_of_traced;
 use crate::two_fixed;
+
+pub use runs::run;
 
 /// A case: the call that it is for, the bytes given and the lines printed.
 pub struct Vector {
@@ -49,6 +53,8 @@ pub enum Call {
     Append = b'A' as isize,
     /// The sheet opener, then the part it found.
     Sheet = b'S' as isize,
+    /// A whole sheet run under one allowance of tests.
+    Run = b'G' as isize,
     /// A part of a sheet, by its place.
     Part = b'P' as isize,
     /// The record reader, then cutting radius, preview and record writer.
