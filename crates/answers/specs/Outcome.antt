@@ -8,7 +8,7 @@ use Prim.Native.Nat.{ℕ}
 use mathlib.Core.Bool.{Bool, true, false}
 use Rattle.answers.specs.declared.Refusal.{Refusal}
 use Rattle.answers.specs.declared.Refusal.the-variants.{TooLong, BadLine, OutsideBox, TooMany, NoPoint, BadSheet, BadRecord, NoRoom}
-use Rattle.answers.specs.declared.Refusal.the-variants.{OddLength, NoGlyph, NotWhole, NotInList, NoDisk, BadTolerance, PointsDoNotFit}
+use Rattle.answers.specs.declared.Refusal.the-variants.{OddLength, NoGlyph, NotWhole, NotInList, NoDisk, BadTolerance, PointsDoNotFit, NotAllowed, TooMuch}
 
 pub data Outcome (A : Type 0) : Type 0 where
   given : A → Outcome A
@@ -30,6 +30,8 @@ numberOf NotInList = 12
 numberOf NoDisk = 13
 numberOf BadTolerance = 14
 numberOf PointsDoNotFit = 15
+numberOf NotAllowed = 16
+numberOf TooMuch = 17
 
 abbrev pub refuseIf : {A : Type 0} → Bool → ℕ → Outcome A → Outcome A
 refuseIf true n rest = refused n

@@ -33,6 +33,10 @@ pub enum Refusal {
     BadTolerance,
     // Points that do not belong to their disk.
     PointsDoNotFit,
+    // A glyph that needs more tests than are left of a sheet's allowance, or stands behind one that did.
+    NotAllowed,
+    // An allowance of 2⁶⁰ tests or more.
+    TooMuch,
 }
 
 // The number that document 01 or 02 gives the refusal.
@@ -55,5 +59,7 @@ pub fn number(r: Refusal) -> u8
         Refusal::NoDisk => 13,
         Refusal::BadTolerance => 14,
         Refusal::PointsDoNotFit => 15,
+        Refusal::NotAllowed => 16,
+        Refusal::TooMuch => 17,
     }
 }

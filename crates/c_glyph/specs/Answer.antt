@@ -2,7 +2,7 @@
 --
 --   glyphAnswer o == 0 and what the outcome o gives; or the number of the refusal, and 0 for everything else
 use Rattle.answers.specs.Outcome.{Outcome, given, refused}
-use Rattle.sheet.specs.Sheet.{Place}
+use Rattle.directory.specs.Directory.{Place}
 use Rattle.c_glyph.specs.declared.GlyphAnswer.{GlyphAnswer}
 
 abbrev pub glyphAnswer : Outcome Place → GlyphAnswer

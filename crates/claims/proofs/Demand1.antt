@@ -6,6 +6,8 @@ use Rattle.engine.proofs.Checks.{list-refused}
 use Rattle.drawn_points.proofs.Behind.{append-refused}
 use Rattle.hull_points.proofs.Answers.{list-kept}
 use Rattle.record_writer.specs.Writing.{leftBy}
+use Rattle.run_steps.specs.Steps.{State}
+use Rattle.sheet_run.specs.Running.{bufferAfter, numbersAfter}
 use Rattle.rules.proofs.Calls as calls
 use Rattle.claims.specs.Demand1.{Demand1}
 
@@ -23,9 +25,11 @@ demand-one = record {
   traced = calls.traced;
   hull = calls.hull;
   stretch = calls.stretch;
+  run = calls.run;
   loader-keeps = λ t l n e. after-refused t l n e;
   engine-keeps = λ l n e. list-refused l e;
   writer-keeps = λ d ps b n e. ap (λ (o : Outcome (Unit {0})). leftBy o d ps b) e;
   append-keeps = λ p l n k e. append-refused p l n e;
   hull-keeps = λ l n e. list-kept l e;
+  run-keeps = λ s t b ns n e. (ap (λ (o : Outcome State). bufferAfter o b) e, ap (λ (o : Outcome State). numbersAfter o ns) e);
 }

@@ -1,10 +1,8 @@
 -- Records: what the writer gives and leaves.
 --
---   record-long        : a record is as long as it should be
 --   written, in-front, filled : a disk and points that pass the checks, in a buffer that is long enough: the writer is done, and the record stands in front
 --   written-checked    : what the writer does not refuse passes the checks, and the buffer is long enough
 use mathlib.Core.Path.{_≡_, ap, _∙_}
-use mathlib.Core.Bool.{true}
 use mathlib.Core.List.{List, _++_}
 use Prim.Native.Nat.{ℕ, _≤_}
 use borrow.Author.Tests.{le-ltb, ltb-false}
@@ -14,18 +12,12 @@ use Rattle.answers.specs.Outcome.{Outcome, given}
 use Rattle.answers.proofs.OutcomeLaws.{not-refused}
 use Rattle.geometry.specs.declared.Point.{Point}
 use Rattle.geometry.specs.Plane.{Disk}
-use Rattle.geometry.specs.EmBox.{em}
-use Rattle.validity.specs.Valid.{valid}
 use Rattle.disk_checks.specs.Checks.{checkOf}
 use Rattle.disk_checks.proofs.CheckLaws.{passed}
-use Rattle.record_writer.specs.Layout.{recordLength, sWidth}
+use Rattle.record_writer.specs.Layout.{recordLength}
 use Rattle.record_writer.specs.Bytes.{recordBytes}
 use Rattle.record_writer.specs.Writing.{writeOf, leftBy, bufferAfter}
-use Rattle.record_writer.proofs.ByteLaws.{recordBy-length}
-use Rattle.validity.proofs.ValidLaws.{valid-points, counted}
-
-pub record-long : (d : Disk) (ps : List Point) → valid d ps ≡ true → length (recordBytes d ps) ≡ recordLength
-record-long d ps v = recordBy-length sWidth d ps (counted em ps (valid-points em d ps v))
+use Rattle.record_writer.proofs.ByteLaws.{record-long}
 
 module _ (d : Disk) (ps : List Point) (buf : List ℕ) where
   pub written : checkOf d ps ≡ given tt → recordLength ≤ length buf → writeOf d ps buf ≡ given tt

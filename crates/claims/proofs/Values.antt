@@ -38,7 +38,8 @@ use Rattle.geometry.proofs.PointLists.{length-flat}
 use Rattle.description.specs.Description.{named, loadOf, listAfter}
 use Rattle.description.proofs.Loading.{after-given}
 use Rattle.description.proofs.AcceptedTexts.{accepted-count}
-use Rattle.sheet.specs.Sheet.{Place, glyphOf, partOf}
+use Rattle.directory.specs.Directory.{Place}
+use Rattle.sheet.specs.Sheet.{glyphOf, partOf}
 use Rattle.sheet.proofs.Parts.{given-pair, given-within, given-part}
 use Rattle.belonging.specs.Belonging.{Belong}
 use Rattle.disk_checks.specs.Checks.{checkIn, checkOf}
@@ -56,7 +57,8 @@ use Rattle.preview.proofs.Exact.{preview-exact}
 use Rattle.preview.proofs.Finite.{has-finite, round-finite}
 use Rattle.rules.specs.Row.{AllKept, GoesBy}
 use Rattle.rules.specs.Rules.{Bytes, loaderRow, sheetRow, Recordable, IsRecordOf, current, old}
-use Rattle.claims.proofs.Records.{record-long, written-checked}
+use Rattle.record_writer.proofs.ByteLaws.{record-long}
+use Rattle.claims.proofs.Records.{written-checked}
 use Rattle.claims.specs.Values.{glyphBytes, IsPart, LeastRadius, PreviewIsRight, bits, shownBy, Values}
 use Rattle.rules.proofs.RowLaws.{row-through}
 use Rattle.rules.proofs.Recordables.{recordable-valid, checked-in, rules-in, checked-rules, rules-checked}

@@ -6,8 +6,8 @@
 --
 -- `GoesBy row o`: o is refused with n exactly where n is due first by the row, and a value is given exactly where every rule is kept (rules/specs/Row.antt).
 -- The rows, with the papers' numbers in their order: rules/specs/Rules.antt. The loader is lent a list, the engine its point list, the writer a
--- buffer, the call of document 02, item 2 a list that it puts a point into, and that of item 8 the list that it reduces; descriptions, sheets, records and
--- the lists of the calls of items 6, 7 and 11 are lent to be read alone.
+-- buffer, the call of document 02, item 2 a list that it puts a point into, that of item 8 the list that it reduces, and that of item 12 a buffer and a
+-- list; descriptions, sheets, records and the lists of the calls of items 6, 7 and 11 are lent to be read alone.
 use mathlib.Core.Path.{_≡_}
 use mathlib.Core.List.{List}
 use Prim.Native.Nat.{ℕ}
@@ -21,6 +21,8 @@ use Rattle.drawn_points.specs.declared.DrawnPoint.{DrawnPoint}
 use Rattle.drawn_points.specs.Appending as drawn
 use Rattle.drawn_points.specs.Appending.{appendOf}
 use Rattle.sheet.specs.Sheet.{glyphOf}
+use Rattle.sheet_run.specs.Running as running
+use Rattle.sheet_run.specs.Running.{runOf}
 use Rattle.engine.specs.Engine.{encloseOf, listAfter}
 use Rattle.chosen_points.specs.declared.Chosen.{Chosen}
 use Rattle.chosen_points.specs.Chosen.{throughOf}
@@ -33,7 +35,7 @@ use Rattle.radius.specs.Radius.{radiusOf}
 use Rattle.record_writer.specs.Writing.{writeOf, bufferAfter}
 use Rattle.record_reader.specs.Reading.{readOf}
 use Rattle.rules.specs.Row.{GoesBy}
-use Rattle.rules.specs.Rules.{Bytes, loaderRow, sheetRow, engineRow, writerRow, readerRow, diskRow, appendRow, throughRow, tracedRow}
+use Rattle.rules.specs.Rules.{Bytes, loaderRow, sheetRow, runRow, engineRow, writerRow, readerRow, diskRow, appendRow, throughRow, tracedRow}
 
 pub record Demand1 : Type 0 where
   -- "the call gives the refusal number due first .. if none is broken, it is not refused"
@@ -49,9 +51,13 @@ pub record Demand1 : Type 0 where
   pub traced : (l : List ℤ) → GoesBy (tracedRow l) (tracedOf l)
   pub hull : (l : List ℤ) → GoesBy (engineRow l) (reduceOf l)
   pub stretch : (l : List ℤ) → GoesBy (engineRow l) (stretchOf l)
+  pub run : (s : List ℕ) (t : ℕ) (b ns : List ℕ) → GoesBy (runRow s t b ns) (runOf s t b ns)
   -- "and changes nothing it was lent"
   pub loader-keeps : (t : List ℕ) (l : List ℤ) (n : ℕ) → loadOf t l ≡ refused n → description.listAfter t l ≡ l
   pub engine-keeps : (l : List ℤ) (n : ℕ) → encloseOf l ≡ refused n → listAfter l ≡ l
   pub writer-keeps : (d : Disk) (ps : List Point) (b : List ℕ) (n : ℕ) → writeOf d ps b ≡ refused n → bufferAfter d ps b ≡ b
   pub append-keeps : (p : DrawnPoint) (l : List ℤ) (n k : ℕ) → appendOf p l n ≡ refused k → drawn.listAfter p l n ≡ l
   pub hull-keeps : (l : List ℤ) (n : ℕ) → reduceOf l ≡ refused n → reducing.listAfter l ≡ l
+  pub run-keeps :
+      (s : List ℕ) (t : ℕ) (b ns : List ℕ) (n : ℕ) → runOf s t b ns ≡ refused n
+      → (running.bufferAfter (runOf s t b ns) b ≡ b) × (running.numbersAfter (runOf s t b ns) ns ≡ ns)

@@ -26,7 +26,8 @@ use Rattle.geometry.specs.declared.Point.{Point}
 use Rattle.geometry.specs.Plane.{Disk}
 use Rattle.geometry.specs.Points.{flat}
 use Rattle.description.specs.Description.{named, loadOf, listAfter}
-use Rattle.sheet.specs.Sheet.{pair, glyphOf, partOf}
+use Rattle.directory.specs.Directory.{pair}
+use Rattle.sheet.specs.Sheet.{glyphOf, partOf}
 use Rattle.belonging.specs.Belonging.{Belong}
 use Rattle.record_writer.specs.Bytes.{recordBytes}
 use Rattle.radius.specs.Radius.{radiusOf}

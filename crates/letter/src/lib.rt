@@ -1,6 +1,8 @@
-// One letter worked whole: loader, engine, record (01, "Description, sheet, record"). Each call has a list of its own, so that a loop
-// that calls it takes no stack at its turns.
+// One letter worked whole: loader, engine, record (01, "Description, sheet, record"). `enclose` and `work` have a list of their own, so
+// that a loop that calls them takes no stack at its turns; a loop over many short letters lends `enclose_in` one list for all.
 ghost use mathlib.Core.Path.{_≡_};
+ghost use Prim.Native.Nat.{_≤_};
+ghost use lib.ListN.{length};
 ghost use Rattle.engine.specs.Engine as engine;
 ghost use Rattle.letter.specs.Letter.{enclosureOf, letterIn, testsIn, bufferAfter, outcome};
 use answers::Refusal;
@@ -13,15 +15,23 @@ pub enum Worked {
     Refused(Refusal),
 }
 
-// The smallest disk of a description's points.
+// The smallest disk of a description's points, which are put into the list; it is as good a list whatever it holds.
+pub fn enclose_in(text: &[u8], list: &mut [i16]) -> Enclosed
+    requires { ⌜ 8192 ≤ length (now list) ⌝ }
+    ensures { λ r. ⌜ engine.outcome r ≡ enclosureOf (now (text .entry)) ⌝ }
+{
+    match description::load(text, list) {
+        Loaded::Points(n) => engine::smallest_disk(&mut list[..2 * n]),
+        Loaded::Refused(r) => Enclosed::Refused(r),
+    }
+}
+
+// The same in a list of its own.
 pub fn enclose(text: &[u8]) -> Enclosed
     ensures { λ r. ⌜ engine.outcome r ≡ enclosureOf (now (text .entry)) ⌝ }
 {
     let mut list = [0i16; 8192];
-    match description::load(text, &mut list) {
-        Loaded::Points(n) => engine::smallest_disk(&mut list[..2 * n]),
-        Loaded::Refused(r) => Enclosed::Refused(r),
-    }
+    enclose_in(text, &mut list)
 }
 
 // Works a description out and writes its record at the front of buf. The writer takes whatever the engine gives, so its answer is not

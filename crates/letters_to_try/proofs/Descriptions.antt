@@ -13,7 +13,7 @@ use native.Mathlib.Omega.{arith}
 use borrow.Author.Tests.{leb-true}
 use lib.Dec.{leb}
 use lib.IntN.{pos}
-use lib.ListN.{length, length-replicate}
+use lib.ListN.{length}
 use Rattle.answers.specs.Outcome.{Outcome, given}
 use Rattle.geometry.specs.declared.Point.{Point}
 use Rattle.geometry.specs.EmBox.{inBox}
@@ -24,6 +24,7 @@ use Rattle.description.proofs.Loading.{load-judged}
 use Rattle.point_lists.specs.Sets.{In, same, has, allOf}
 use Rattle.point_lists.proofs.SetTests.{has-in, all-in}
 use Rattle.letter.specs.Letter.{room}
+use Rattle.letter.proofs.Whole.{room-long}
 use Rattle.claims.specs.Demand3.{AcceptedDescription}
 use Rattle.letters_to_try.specs.Letters.{Letter, letters}
 use Rattle.claims.proofs.Demand3.{demand-three}
@@ -89,9 +90,6 @@ numbers-read = refl & refl & refl & refl & refl & refl & refl & refl & refl & re
 
 each-in : (P Q : List Point) → allOf (has Q) P ≡ true → (p : Point) → In p P → In p Q
 each-in P Q h p i = has-in Q p (all-in (has Q) P h p i)
-
-room-long : 8192 ≤ length room
-room-long = subst (λ (n : ℕ). 8192 ≤ n) (sym (length-replicate 8192 (pos 0))) (omega arith)
 
 accepted : (t : String) (n : ℕ) → Loads (bytes t) (given n) → AcceptedDescription (bytes t)
 accepted t n h = record { list = room; count = n; loads = h .answers room room-long }

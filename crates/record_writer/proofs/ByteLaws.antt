@@ -4,6 +4,7 @@
 --   not-four              : one to three points are no more
 --   madeThree-length      : one to three points are made three
 --   recordBy-length       : a record with an S of n bytes has `lengthBy n` bytes
+--   record-long           : the record of a valid disk and its points has its length
 --   three-stored          : three points and a count stored one by one are stored together
 --   record-stored         : the disk, then the points with their count stored are the record in front, and the rest as it was
 use mathlib.Core.Path.{_≡_, refl, sym, ap, ap₂, _∙_, subst}
@@ -20,7 +21,9 @@ use Rattle.big_endian.proofs.ByteLists.{bytesOf-length}
 use Rattle.integers.proofs.Tests.{rest}
 use Rattle.geometry.specs.declared.Point.{Point}
 use Rattle.geometry.specs.Plane.{Disk}
-use Rattle.validity.specs.Valid.{oneToThree}
+use Rattle.geometry.specs.EmBox.{em}
+use Rattle.validity.specs.Valid.{oneToThree, valid}
+use Rattle.validity.proofs.ValidLaws.{valid-points, counted}
 use Rattle.record_writer.specs.Layout.{recordLength, lengthBy, sWidth, firstAt, pointWidth, countWidth, xAt, secondAt, thirdAt, countAt}
 use Rattle.record_writer.specs.Bytes.{diskBytes, pointBytes, pointsBytes, madeThree, countBytes, recordBy, recordBytes}
 use Rattle.big_endian.proofs.Stores.{sets-append, put-next}
@@ -56,6 +59,9 @@ unfolding recordBy
 recordBy-length n d ps h =
     let three = pointsBytes-length (madeThree ps) ∙ ap (λ (k : ℕ). pointWidth * k) (madeThree-length ps h) in
     simp (length-append, bytesOf-length, three)
+
+pub record-long : (d : Disk) (ps : List Point) → valid d ps ≡ true → length (recordBytes d ps) ≡ recordLength
+record-long d ps v = recordBy-length sWidth d ps (counted em ps (valid-points em d ps v))
 
 -- ---- stored in a buffer
 

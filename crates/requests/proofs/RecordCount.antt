@@ -28,7 +28,8 @@ use Rattle.letter.specs.Letter as letter
 use Rattle.letter.proofs.Whole.{letter-short}
 use Rattle.rules.proofs.Recordables.{recordable-valid, checked-in, rules-checked}
 use Rattle.requests.specs.RecordCount.{Counted, RecordCount}
-use Rattle.claims.proofs.Records.{record-long, written, written-checked, filled}
+use Rattle.record_writer.proofs.ByteLaws.{record-long}
+use Rattle.claims.proofs.Records.{written, written-checked, filled}
 use Rattle.claims.proofs.Whole.{steps}
 
 counted-by : {w : ℕ} {l : Limits} {bs : List ℕ} {d : Disk} {ps : List Point} → Accepted w l bs d ps → Counted (lengthBy w) bs ps

@@ -1,11 +1,11 @@
 -- Each public call goes by its row of rules (specs/Rules.antt).
 --
---   loader, sheet, engine, radius, preview, writer, reader, append, through, traced, hull, stretch : the calls
+--   loader, sheet, run, engine, radius, preview, writer, reader, append, through, traced, hull, stretch : the calls
 use mathlib.Core.Path.{_≡_, refl, sym, ap, ap₂, _∙_, subst}
 use mathlib.Core.Logic.{inl, inr}
 use mathlib.Core.Bool.{Bool, true, false, not, true≢false}
 use mathlib.Core.List.{List, [], _∷_}
-use Prim.Native.Nat.{ℕ, suc, _*_, _/_, _%_, _≤_, _<_}
+use Prim.Native.Nat.{ℕ, suc, _*_, _/_, _%_, _^_, _≤_, _<_}
 use native.Mathlib.Omega.{arith}
 use borrow.Author.Tests.{ltb-true, ltb-false, leb-true, leb-false, eqb-true, eqb-false, eq-eqb, not-true, not-false}
 use lib.Dec.{eqb, leb, ltb}
@@ -23,7 +23,11 @@ use Rattle.geometry.proofs.PointLists.{firstPoints-all, length-firstPoints}
 use Rattle.description.specs.Description.{linesRead, loadOf}
 use Rattle.drawn_points.specs.declared.DrawnPoint.{DrawnPoint}
 use Rattle.drawn_points.specs.Appending.{placeOf, takenOf, appendOf}
-use Rattle.sheet.specs.Sheet.{count, directoryEnd, pair, pairs, follow, glyphOf}
+use Rattle.directory.specs.Directory.{count, directoryEnd, pair, pairs, follow, countOf}
+use Rattle.directory.proofs.Rows.{count-known}
+use Rattle.sheet.specs.Sheet.{glyphOf}
+use Rattle.run_steps.specs.Steps.{State}
+use Rattle.sheet_run.specs.Running.{ran, runOf}
 use Rattle.engine.specs.Engine.{enclosure, encloseOf}
 use Rattle.engine.proofs.Checks.{even-length}
 use Rattle.point_lists.specs.Sets.{has, allOf}
@@ -58,7 +62,7 @@ use Rattle.record_reader.proofs.RecordFields.{Wide, wide-em, wide-old}
 use Rattle.preview.specs.Preview.{floats, previewOf}
 use Rattle.rules.specs.Row.{Rule, _unless_, eachOf, GoesBy}
 use Rattle.rules.specs.Rules.{Bytes, RecordableIn, Recordable, IsRecordOf, current, old, IsRecord, Names}
-use Rattle.rules.specs.Rules.{loaderRow, sheetRow, engineRow, writerRow, readerRow, diskRow, appendRow, throughRow, pointRow, tracedRow}
+use Rattle.rules.specs.Rules.{loaderRow, directoryRow, sheetRow, runRow, engineRow, writerRow, readerRow, diskRow, appendRow, throughRow, pointRow, tracedRow}
 use Rattle.rules.proofs.RowLaws.{row-end, row-step, row-then, row-through, row-none, row-first}
 use Rattle.geometry.proofs.EmBox.{inside, inside-test, all-inside, inside-all}
 use Rattle.rules.proofs.Recordables.{valid-recordable, recordable-valid, belongs-belong, belong-belongs}
@@ -84,15 +88,35 @@ loader t l =
     row-step (ltb 65535 (length t)) 1 (λ h. above (ltb-true 65535 (length t) h)) (ltb-false 65535 (length t)) (λ short.
     lines-judged (linesRead t)))
 
-pub sheet : (s : List ℕ) (k : ℕ) → GoesBy (sheetRow s k) (glyphOf s k)
-unfolding glyphOf
-sheet s k =
+directory : (s : List ℕ) → GoesBy (directoryRow s) (countOf s)
+unfolding countOf
+directory s =
     let rule = follow (directoryEnd s) (length s) (pairs s 0 (count s)) in
     row-step (ltb 65535 (length s)) 1 (λ h. above (ltb-true 65535 (length s) h)) (ltb-false 65535 (length s)) (λ short.
     row-step (ltb (length s) (directoryEnd s)) 6 (λ h. above (ltb-true (length s) (directoryEnd s) h)) (ltb-false (length s) (directoryEnd s)) (λ whole.
     row-step (not rule) 6 (λ h o. fails h (ordered s o)) (λ h. in-order s (not-false rule h)) (λ order.
-    row-step (leb (count s) k) 10 (λ h l. above l (leb-true (count s) k h)) (leb-false (count s) k) (λ below.
-    row-end (pair s k)))))
+    row-end (count s))))
+
+-- a call that goes on with the count of the glyphs
+with-count : {A : Type 0} (s : List ℕ) (next : List Rule) (f : ℕ → Outcome A) → GoesBy next (f (count s)) → GoesBy (directoryRow s ++ next) (andThen (countOf s) f)
+with-count s next f g = row-then (directoryRow s) next f (countOf s) (directory s) (λ n e. subst (λ (m : ℕ). GoesBy next (f m)) (sym (count-known s n e .all)) g)
+
+pub sheet : (s : List ℕ) (k : ℕ) → GoesBy (sheetRow s k) (glyphOf s k)
+unfolding glyphOf
+sheet s k =
+    with-count s _ (λ n. refuseIf (leb n k) 10 (given (pair s k)))
+    (row-step (leb (count s) k) 10 (λ h l. above l (leb-true (count s) k h)) (leb-false (count s) k) (λ below.
+    row-end (pair s k)))
+
+pub run : (s : List ℕ) (t : ℕ) (b ns : List ℕ) → GoesBy (runRow s t b ns) (runOf s t b ns)
+unfolding runOf
+run s t b ns =
+    let room : ℕ → ℕ = λ n. recordLength * n in
+    with-count s _ (λ n. refuseIf (ltb (length b) (room n)) 8 (refuseIf (ltb (length ns) n) 8 (refuseIf (leb (2 ^ 60) t) 17 (given (ran s t)))))
+    (row-step (ltb (length b) (room (count s))) 8 (λ h. above (ltb-true (length b) (room (count s)) h)) (ltb-false (length b) (room (count s))) (λ enough.
+    row-step (ltb (length ns) (count s)) 8 (λ h. above (ltb-true (length ns) (count s) h)) (ltb-false (length ns) (count s)) (λ places.
+    row-step (leb (2 ^ 60) t) 17 (λ h l. above l (leb-true (2 ^ 60) t h)) (leb-false (2 ^ 60) t) (λ less.
+    row-end (ran s t)))))
 
 -- as many numbers as twice the points
 pub paired : (l : List ℤ) → length l % 2 ≡ 0 → length l ≡ 2 * length (points l)

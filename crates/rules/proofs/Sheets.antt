@@ -10,8 +10,8 @@ use native.Mathlib.Omega.{arith}
 use borrow.Author.Tests.{le-leb}
 use lib.ListN.{length}
 use Rattle.integers.proofs.Tests.{both}
-use Rattle.sheet.specs.Sheet.{count, directoryEnd, pair, pairs, follow}
-use Rattle.sheet.proofs.Parts.{follow-pair, pairs-sorted}
+use Rattle.directory.specs.Directory.{count, directoryEnd, pair, pairs, follow}
+use Rattle.directory.proofs.Follow.{follow-pair, pairs-sorted}
 use Rattle.rules.specs.Rules.{partEnd, PairsInOrder}
 
 pub in-order : (s : List ℕ) → follow (directoryEnd s) (length s) (pairs s 0 (count s)) ≡ true → PairsInOrder s

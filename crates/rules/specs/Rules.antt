@@ -11,15 +11,15 @@
 --   IsRecordOf d ps bs == bs is the record of such a disk and points: of 53 bytes, or of 45 by the old limits; IsRecord bs: of some
 --   Names p c          == the drawing program's point p is c: its whole numbers are c's, or its floats stand for them exactly
 --   pointRow s         == the rules of a traced point: 14, then 3
---   loaderRow, sheetRow, engineRow, writerRow, readerRow, diskRow, appendRow, throughRow, tracedRow == the rows; radius and preview have diskRow, the
---                         call that reduces a list to its hull and that for the widest stretch have engineRow
+--   loaderRow, directoryRow, sheetRow, runRow, engineRow, writerRow, readerRow, diskRow, appendRow, throughRow, tracedRow == the rows; radius and preview
+--                         have diskRow, the call that reduces a list to its hull and that for the widest stretch have engineRow
 --
 -- `Inside em p`: x is from 0 to 2048 and y from −512 to 1536 (geometry/specs/EmBox.antt, which has every limit of points and disks).
 -- `Belong d ps`: the points ps belong to the disk d (belonging/specs/Belonging.antt).
 use mathlib.Core.Path.{_≡_}
 use mathlib.Core.Logic.{_⊎_}
 use mathlib.Core.List.{List, [], _∷_, _++_, List·Memᴰ}
-use Prim.Native.Nat.{ℕ, suc, _+_, _%_, _≤_, _<_}
+use Prim.Native.Nat.{ℕ, suc, _+_, _*_, _^_, _%_, _≤_, _<_}
 use lib.IntN.{ℤ, pos}
 use lib.ListN.{length, getD}
 use Rattle.divisors.specs.Divisor.{Reduced}
@@ -41,7 +41,7 @@ use Rattle.description.specs.Description.{linesRead, pointsOn, named}
 use Rattle.whole_floats.specs.Whole.{StandsFor}
 use Rattle.drawn_points.specs.declared.DrawnPoint.{DrawnPoint}
 use Rattle.drawn_points.specs.declared.DrawnPoint.the-variants.{Whole, Drawn}
-use Rattle.sheet.specs.Sheet.{count, directoryEnd, pair}
+use Rattle.directory.specs.Directory.{count, directoryEnd, pair}
 use Rattle.belonging.specs.Belonging.{Belong}
 use Rattle.record_writer.specs.Layout.{recordLength, oldRecordLength}
 use Rattle.record_writer.specs.Bytes.{recordBytes, oldRecordBytes}
@@ -101,14 +101,26 @@ pub record PairsInOrder (s : List ℕ) : Type 0 where
   -- "all within the sheet"
   pub within : (i : ℕ) → i < count s → partEnd s i ≤ length s
 
--- "Sheet: 1, 6, 10."
-abbrev pub sheetRow : List ℕ → ℕ → List Rule
-sheetRow s k =
+-- what is asked of a sheet whichever glyph is meant
+abbrev pub directoryRow : List ℕ → List Rule
+directoryRow s =
     1 unless (length s ≤ 65535)
     ∷ 6 unless (directoryEnd s ≤ length s)
     ∷ 6 unless PairsInOrder s
-    ∷ 10 unless (k < count s)
     ∷ []
+
+-- "Sheet: 1, 6, 10."
+abbrev pub sheetRow : List ℕ → ℕ → List Rule
+sheetRow s k = directoryRow s ++ (10 unless (k < count s) ∷ [])
+
+-- "1, 6, then 8 if the buffer lacks 53 bytes for each glyph or the list a place, then 17 for T of 2⁶⁰ or more" (02, item 12)
+abbrev pub runRow : List ℕ → ℕ → List ℕ → List ℕ → List Rule
+runRow s t buffer list =
+    directoryRow s
+    ++ (8 unless (recordLength * count s ≤ length buffer)
+    ∷ 8 unless (count s ≤ length list)
+    ∷ 17 unless (t < 2 ^ 60)
+    ∷ [])
 
 -- ---- point lists
 

@@ -1,9 +1,10 @@
 // The sheet opener: where glyph k of a sheet lies, and its bytes (01, "A sheet", "Glyph k").
 use answers::Refusal;
+use directory::Counted;
 ghost use mathlib.Core.Path.{_≡_};
-ghost use Prim.Native.Nat.{_+_, _*_, _≤_, _<_};
+ghost use Prim.Native.Nat.{_+_, _*_, _≤_};
 ghost use lib.ListN.{length};
-ghost use Rattle.sheet.specs.Sheet.{number, pairs, follow, glyphOf, outcome, partOf};
+ghost use Rattle.sheet.specs.Sheet.{glyphOf, outcome, partOf, partAt};
 
 // What asking for a glyph gives.
 pub enum Opened {
@@ -12,59 +13,21 @@ pub enum Opened {
     Refused(Refusal),
 }
 
-// The 16-bit number at a place.
-fn number_at(sheet: &[u8], at: usize) -> usize
-    requires { ⌜ at + 2 ≤ length (now sheet) ⌝ }
-    ensures { λ r. ⌜ (r ≡ number (now (sheet .entry)) at) × (r ≤ 65535) ⌝ }
-{
-    big_endian::get_at(sheet, at, 2) as usize
-}
-
-// Whether each part starts at or after the end of the one before, the first after the directory, and all lie within the sheet.
-fn in_order(sheet: &[u8], count: usize) -> bool
-    requires { ⌜ (count ≤ 65535) × (2 + 4 * count ≤ length (now sheet)) ⌝ }
-    ensures { λ r. ⌜ r ≡ follow (2 + 4 * count) (length (now (sheet .entry))) (pairs (now (sheet .entry)) 0 count) ⌝ }
-{
-    let mut end = 2 + 4 * count;
-    let mut i: usize = 0;
-    while i < count {
-        let start = number_at(sheet, 2 + 4 * i);
-        let len = number_at(sheet, 4 + 4 * i);
-        if start < end {
-            return false;
-        }
-        if sheet.len() < start + len {
-            return false;
-        }
-        end = start + len;
-        i += 1;
-    }
-    true
-}
-
 // Glyph k, from 0.
 pub fn glyph(sheet: &[u8], k: usize) -> Opened
     ensures { λ r. ⌜ outcome r ≡ glyphOf (now (sheet .entry)) k ⌝ }
 {
-    if 65535 < sheet.len() {
-        return Opened::Refused(Refusal::TooLong);
+    match directory::count_glyphs(sheet) {
+        Counted::Glyphs(count) => {
+            if count <= k {
+                return Opened::Refused(Refusal::NoGlyph);
+            }
+            let start = directory::number_at(sheet, 2 + 4 * k);
+            let len = directory::number_at(sheet, 4 + 4 * k);
+            Opened::Part(start, len)
+        }
+        Counted::Refused(r) => Opened::Refused(r),
     }
-    if sheet.len() < 2 {
-        return Opened::Refused(Refusal::BadSheet);
-    }
-    let count = number_at(sheet, 0);
-    if sheet.len() < 2 + 4 * count {
-        return Opened::Refused(Refusal::BadSheet);
-    }
-    if !in_order(sheet, count) {
-        return Opened::Refused(Refusal::BadSheet);
-    }
-    if count <= k {
-        return Opened::Refused(Refusal::NoGlyph);
-    }
-    let start = number_at(sheet, 2 + 4 * k);
-    let len = number_at(sheet, 4 + 4 * k);
-    Opened::Part(start, len)
 }
 
 // The len bytes of the sheet from start on, or none where they do not all lie in it. An enum holds no reference, so `glyph` says
@@ -81,4 +44,14 @@ pub fn part(sheet: &[u8], start: usize, len: usize) -> &[u8]
     } else {
         &sheet[..0]
     }
+}
+
+// The part of glyph k, of a sheet whose directory has it.
+pub fn part_at(sheet: &[u8], k: usize) -> &[u8]
+    requires { ⌜ (6 + 4 * k ≤ length (now sheet)) × (k ≤ 65535) ⌝ }
+    ensures { λ r. ⌜ now r ≡ partAt (now (sheet .entry)) k ⌝ }
+{
+    let start = directory::number_at(sheet, 2 + 4 * k);
+    let len = directory::number_at(sheet, 4 + 4 * k);
+    part(sheet, start, len)
 }

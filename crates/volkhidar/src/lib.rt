@@ -10,6 +10,7 @@ ghost use Rattle.chosen_points.specs.Chosen.{throughOf};
 ghost use Rattle.traced_points.specs.Traced.{tracedOf};
 ghost use Rattle.hull_points.specs.Reducing as hull;
 ghost use Rattle.widest_stretch.specs.Stretching.{stretchOf};
+ghost use Rattle.sheet_run.specs.Running as runs;
 ghost use Rattle.radius.specs.Radius.{radiusOf};
 ghost use Rattle.record_writer.specs.Writing as writer;
 ghost use Rattle.record_reader.specs.Reading.{readOf};
@@ -23,6 +24,7 @@ ghost use Rattle.c_glyph.specs.Answer.{glyphAnswer};
 ghost use Rattle.c_disk.specs.Answer.{diskAnswer};
 ghost use Rattle.c_through.specs.Answer.{throughAnswer};
 ghost use Rattle.c_stretch.specs.Answer.{stretchAnswer};
+ghost use Rattle.c_run.specs.Answer.{runAnswer};
 ghost use Rattle.c_radius.specs.Answer.{radiusAnswer};
 ghost use Rattle.c_preview.specs.Answer.{previewAnswer};
 ghost use Rattle.c_read.specs.Answer.{recordAnswer};
@@ -34,6 +36,7 @@ use c_load::LoadAnswer;
 use c_preview::PreviewAnswer;
 use c_radius::RadiusAnswer;
 use c_read::RecordAnswer;
+use c_run::RunAnswer;
 use c_stretch::StretchAnswer;
 use c_through::ThroughAnswer;
 use c_types::Support;
@@ -143,4 +146,19 @@ pub extern "C" fn volkhidar_record_of(text: &[u8], buf: &mut [u8]) -> u64
     ensures { λ _. ⌜ now (buf .exit) ≡ letter.bufferAfter (letter.letterIn (now (text .entry)) (now (buf .entry))) (now (buf .entry)) ⌝ }
 {
     c_letter::record_of(text, buf)
+}
+
+// The glyphs of a sheet, each from its description to its record.
+#[no_mangle]
+pub extern "C" fn volkhidar_run_sheet(
+    sheet: &[u8],
+    allowance: u64,
+    buf: &mut [u8],
+    list: &mut [u16],
+) -> RunAnswer
+    ensures { λ r. ⌜ r ≡ runAnswer (runs.answerOf (runs.runOf (now (sheet .entry)) allowance (now (buf .entry)) (now (list .entry)))) ⌝ }
+    ensures { λ _. ⌜ now (buf .exit) ≡ runs.bufferAfter (runs.runOf (now (sheet .entry)) allowance (now (buf .entry)) (now (list .entry))) (now (buf .entry)) ⌝ }
+    ensures { λ _. ⌜ now (list .exit) ≡ runs.numbersAfter (runs.runOf (now (sheet .entry)) allowance (now (buf .entry)) (now (list .entry))) (now (list .entry)) ⌝ }
+{
+    c_run::run_sheet(sheet, allowance, buf, list)
 }

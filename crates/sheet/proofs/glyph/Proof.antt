@@ -1,127 +1,103 @@
--- `sheet::glyph` meets its contract: the tests that led to each `return` say to which end the row of checks comes.
-use mathlib.Core.Path.{_≡_, sym, ap, ap₂, _∙_, subst}
-use mathlib.Core.Bool.{true}
+-- `sheet::glyph` meets its contract: the count, then the check of k.
+use mathlib.Core.Path.{_≡_, sym, ap, ap₂, _∙_}
 use mathlib.Core.List.{List}
-use Prim.Native.Nat.{ℕ, _+_, _*_, _≤_, _<_}
+use Prim.Native.Nat.{ℕ}
 use native.Mathlib.Omega.{arith}
-use borrow.Author.Tests.{not-true, not-false}
-use lib.ListN.{length}
-use Rattle.answers.specs.Outcome.{given}
-use Rattle.sheet.specs.Sheet.{count, directoryEnd, pairs, follow}
-use Rattle.sheet.proofs.Rows.{too-long, cut-short, pairs-broken, no-glyph, place-given}
+use borrow.Author.Needs.{needs}
+use borrow.Author.Tests.{le-leb, lt-leb}
+use lib.Dec.{leb}
+use Rattle.answers.specs.Outcome.{Outcome, given, refuseIf, andThen}
+use Rattle.directory.specs.Directory.{Place, pair, countOf, outcome}
+use Rattle.directory.proofs.Rows.{Counted, count-known}
+use Rattle.sheet.specs.Sheet.{glyphOf}
 use Rattle.sheet.proofs.glyph.Statement.{statement}
 use Rattle.sheet.proofs.glyph.Tie as tie
 
--- where the count is read: the sheet, and the count
-module _ (c : tie.After-number-at) where
+-- the check of k, and the glyph by the count
+module _ (s : List ℕ) (k : ℕ) where
+  abbrev asked-of : ℕ → Outcome Place
+  asked-of n = refuseIf (leb n k) 10 (given (pair s k))
+
+  by-count : {o : Outcome ℕ} → countOf s ≡ o → glyphOf s k ≡ andThen o asked-of
+  unfolding glyphOf
+  by-count e = ap (λ (o : Outcome ℕ). andThen o asked-of) e
+
+-- where the sheet keeps the rules
+module _ (c : tie.After-count) where
   abbrev bytes : List ℕ
   bytes = c .before .before .before .before .args .sheet .now
 
   abbrev asked : ℕ
   asked = c .before .before .before .before .args .k
 
-  count-is : c .number-at .result ≡ count bytes
-  count-is = c .number-at .ensures .0
+  abbrev size : ℕ
+  size = c .count .given .0 .0
 
-  directory-is : 2 + 4 * c .number-at .result ≡ directoryEnd bytes
-  directory-is = ap (λ (n : ℕ). 2 + 4 * n) count-is
+  counts : countOf bytes ≡ given size
+  counts = sym (c .before .before .count-glyphs .ensures) ∙ ap outcome (c .count .given .1)
 
-  short : length bytes ≤ 65535
-  short = c .before .before .if1 .left
+  known : Counted bytes size
+  known = count-known bytes size counts
 
--- where the directory is there
-whole : (c : tie.Else3) → directoryEnd (bytes (c .before)) ≤ length (bytes (c .before))
-whole c = subst (λ (n : ℕ). n ≤ length (bytes (c .before))) (directory-is (c .before)) (c .if3 .left)
+count-glyphs-requires : tie.Need-count-glyphs-requires
+count-glyphs-requires c κs = search needs
 
--- where the pairs have been looked at
-rule-is : (c : tie.After-in-order) → let s = bytes (c .before .before) in c .in-order .result ≡ follow (directoryEnd s) (length s) (pairs s 0 (count s))
-rule-is c =
-    let s = bytes (c .before .before) in
-    c .in-order .ensures ∙ ap (λ (n : ℕ). follow (2 + 4 * n) (length s) (pairs s 0 n)) (count-is (c .before .before))
-
-rule-holds : (c : tie.Else4) → let s = bytes (c .before .before .before) in follow (directoryEnd s) (length s) (pairs s 0 (count s)) ≡ true
-rule-holds c = sym (rule-is (c .before)) ∙ not-false (c .before .in-order .result) (c .if4 .left)
+enum-known-count : tie.Need-enum-known-count
+enum-known-count c = search needs
 
 returns : tie.Need-returns
-returns c = let a = c .before .before .args in too-long (a .sheet .now) (a .k) (c .if1 .taken)
+returns c =
+    let n = c .before .before in
+    sym (by-count (bytes n) (asked n) (counts n) ∙ rw (le-leb (size n) (asked n) (c .if1 .taken)))
+
+mul-number-at : tie.Need-mul-number-at
+mul-number-at c = let k = known (c .before .before) in omega (arith, k .all, k .whole, k .short)
+
+add-number-at : tie.Need-add-number-at
+add-number-at c = let k = known (c .before .before) in omega (arith, k .all, k .whole, k .short)
+
+number-at-requires : tie.Need-number-at-requires
+number-at-requires c κs = let k = known (c .before .before) in omega (arith, k .all, k .whole, k .short)
+
+mul-number-at-2 : tie.Need-mul-number-at-2
+mul-number-at-2 c = let k = known (c .before .before .before) in omega (arith, k .all, k .whole, k .short)
+
+add-number-at-2 : tie.Need-add-number-at-2
+add-number-at-2 c = let k = known (c .before .before .before) in omega (arith, k .all, k .whole, k .short)
+
+number-at-requires-2 : tie.Need-number-at-requires-2
+number-at-requires-2 c κs = let k = known (c .before .before .before) in omega (arith, k .all, k .whole, k .short)
+
+enum-known-r : tie.Need-enum-known-r
+enum-known-r c = search needs
 
 returns-2 : tie.Need-returns-2
 returns-2 c =
-    let a = c .before .before .before .args in
-    let h : length (a .sheet .now) < directoryEnd (a .sheet .now) = omega arith in
-    cut-short (a .sheet .now) (a .k) (c .before .if1 .left) h
-
-number-at-requires : tie.Need-number-at-requires
-number-at-requires c κs = omega arith
-
-mul-if3 : tie.Need-mul-if3
-mul-if3 c = omega arith
-
-add-if3 : tie.Need-add-if3
-add-if3 c = omega arith
+    let first = c .before in
+    let n = first .before .before .before in
+    ap₂ (λ (a b : ℕ). given (record { start = a; len = b })) (first .number-at .ensures .0) (c .number-at2 .ensures .0)
+    ∙ sym (by-count (bytes n) (asked n) (counts n) ∙ rw (lt-leb (size n) (asked n) (first .before .if1 .left)))
 
 returns-3 : tie.Need-returns-3
 returns-3 c =
-    let d = c .before in
-    cut-short (bytes d) (asked d) (short d) (subst (λ (n : ℕ). length (bytes d) < n) (directory-is d) (c .if3 .taken))
-
-in-order-requires : tie.Need-in-order-requires
-in-order-requires c κs = (c .before .number-at .ensures .1, c .if3 .left)
-
-returns-4 : tie.Need-returns-4
-returns-4 c =
-    let d = c .before .before .before in
-    pairs-broken (bytes d) (asked d) (short d) (whole (c .before .before)) (sym (rule-is (c .before)) ∙ not-true (c .before .in-order .result) (c .if4 .taken))
-
-returns-5 : tie.Need-returns-5
-returns-5 c =
-    let d = c .before .before .before .before in
-    no-glyph (bytes d) (asked d) (short d) (whole (c .before .before .before)) (rule-holds (c .before))
-    (subst (λ (n : ℕ). n ≤ asked d) (count-is d) (c .if5 .taken))
-
-mul-number-at : tie.Need-mul-number-at
-mul-number-at c = omega arith
-
-add-number-at : tie.Need-add-number-at
-add-number-at c = omega arith
-
-number-at-requires-2 : tie.Need-number-at-requires-2
-number-at-requires-2 c κs = omega arith
-
-mul-number-at-2 : tie.Need-mul-number-at-2
-mul-number-at-2 c = omega arith
-
-add-number-at-2 : tie.Need-add-number-at-2
-add-number-at-2 c = omega arith
-
-number-at-requires-3 : tie.Need-number-at-requires-3
-number-at-requires-3 c κs = omega arith
-
-returns-6 : tie.Need-returns-6
-returns-6 c =
-    let e = c .before .before in
-    let d = e .before .before .before .before in
-    ap₂ (λ (a b : ℕ). given (record { start = a; len = b })) (c .before .number-at2 .ensures .0) (c .number-at3 .ensures .0)
-    ∙ place-given (bytes d) (asked d) (short d) (whole (e .before .before .before)) (rule-holds (e .before))
-    (subst (λ (n : ℕ). asked d < n) (count-is d) (e .if5 .left))
+    let r = c .before in
+    let g = r .before .before in
+    let a = g .before .before .args in
+    sym (by-count (a .sheet .now) (a .k) (sym (g .count-glyphs .ensures) ∙ ap outcome (r .r .given .1)))
 
 pub glyph-spec : {M : Type 1} → statement M
 glyph-spec =
     tie.close
     (tie.spec
+    count-glyphs-requires
+    enum-known-count
     returns
-    returns-2
-    number-at-requires
-    mul-if3
-    add-if3
-    returns-3
-    in-order-requires
-    returns-4
-    returns-5
     mul-number-at
     add-number-at
-    number-at-requires-2
+    number-at-requires
     mul-number-at-2
     add-number-at-2
-    number-at-requires-3
-    returns-6)
+    number-at-requires-2
+    enum-known-r
+    returns-2
+    returns-3)

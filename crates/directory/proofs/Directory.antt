@@ -14,7 +14,7 @@ use native.Mathlib.Numerals.{add-one}
 use native.Mathlib.Omega.{arith}
 use borrow.Author.Tests.{le-leb, lt-leb}
 use lib.Dec.{leb}
-use Rattle.sheet.specs.Sheet.{pair, pairs, follow}
+use Rattle.directory.specs.Directory.{pair, pairs, follow}
 
 pub pairs-step : (s : List ℕ) (i n : ℕ) → i < n → pairs s i (n - i) ≡ pair s i ∷ pairs s (i + 1) (n - (i + 1))
 unfolding pairs

@@ -1,4 +1,4 @@
--- `sheet::in_order` meets its contract. The loop's invariant: the rule of the pairs from pair i on, after `end`, is the rule of all of them. The
+-- `directory::in_order` meets its contract. The loop's invariant: the rule of the pairs from pair i on, after `end`, is the rule of all of them. The
 -- measure is what is left of the count.
 use mathlib.Core.Path.{_≡_, sym, ap, ap₂, _∙_, subst}
 use mathlib.Core.List.{List}
@@ -6,10 +6,10 @@ use Prim.Native.Nat.{ℕ, _+_, _-_, _*_, _≤_, _<_}
 use native.Mathlib.Nat.{sub-zero}
 use native.Mathlib.Omega.{arith}
 use lib.ListN.{length}
-use Rattle.sheet.specs.Sheet.{pair, pairs, follow}
-use Rattle.sheet.proofs.Directory.{follow-done, follow-early, follow-late, follow-next}
-use Rattle.sheet.proofs.in_order.Statement.{statement}
-use Rattle.sheet.proofs.in_order.Tie as tie
+use Rattle.directory.specs.Directory.{pair, pairs, follow}
+use Rattle.directory.proofs.Directory.{follow-done, follow-early, follow-late, follow-next}
+use Rattle.directory.proofs.in_order.Statement.{statement}
+use Rattle.directory.proofs.in_order.Tie as tie
 
 abbrev Inv-loop : tie.InvT-loop
 Inv-loop sheet count end₀ i₀ end i =

@@ -1,0 +1,3 @@
+pub mod Directory
+pub mod Rows
+pub mod Follow

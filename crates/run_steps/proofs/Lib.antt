@@ -1,0 +1,2 @@
+pub mod Placing
+pub mod StepLaws

@@ -1,0 +1,3 @@
+pub mod Steps
+-- of inner contracts
+pub mod Inner

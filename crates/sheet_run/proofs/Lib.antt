@@ -1,0 +1,3 @@
+pub mod Glyphs
+pub mod Reached
+pub mod Rows

@@ -1,0 +1,3 @@
+pub mod Running
+-- of inner contracts
+pub mod Ready
