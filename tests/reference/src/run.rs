@@ -70,16 +70,18 @@ fn allowed(solved: Vec<Outcome>, allowance: u64) -> Vec<Outcome> {
 }
 
 #[cfg(test)]
-mod tests {
+pub(crate) mod tests {
     use super::*;
     use crate::edges;
     use crate::inputs::RunCase;
     use crate::random::Random;
 
     /// What a call returned, and buffer and list after it.
-    type After = (Result<SheetRun, Refusal>, Vec<u8>, Vec<u16>);
+    pub type After = (Result<SheetRun, Refusal>, Vec<u8>, Vec<u16>);
 
-    fn after(case: &RunCase, call: fn(&[u8], u64, &mut [u8], &mut [u16]) -> Result<SheetRun, Refusal>) -> After {
+    type Call = fn(&[u8], u64, &mut [u8], &mut [u16]) -> Result<SheetRun, Refusal>;
+
+    pub fn after(case: &RunCase, call: Call) -> After {
         let (mut buffer, mut numbers) = case.lent();
         let answer = call(&case.sheet, case.allowance, &mut buffer, &mut numbers);
         (answer, buffer, numbers)
@@ -129,17 +131,17 @@ mod tests {
     }
 
     /// A run that was not refused: its allowance and sheet, every glyph on its own, and what the run left.
-    struct Ran {
-        case: RunCase,
-        texts: Vec<Vec<u8>>,
-        alone: Vec<Outcome>,
-        run: SheetRun,
-        buffer: Vec<u8>,
-        numbers: Vec<u16>,
+    pub struct Ran {
+        pub case: RunCase,
+        pub texts: Vec<Vec<u8>>,
+        pub alone: Vec<Outcome>,
+        pub run: SheetRun,
+        pub buffer: Vec<u8>,
+        pub numbers: Vec<u16>,
     }
 
     impl Ran {
-        fn new(case: RunCase) -> Option<Ran> {
+        pub fn new(case: RunCase) -> Option<Ran> {
             let (answer, buffer, numbers) = after(&case, run_sheet);
             let texts: Vec<Vec<u8>> = sheet::parts(&case.sheet).ok()?.into_iter().map(|part| case.sheet[part].to_vec()).collect();
             let alone = solve_each(texts.iter().map(Vec::as_slice));
@@ -147,7 +149,7 @@ mod tests {
         }
 
         /// The acceptable glyphs: place, count and number.
-        fn acceptable(&self) -> Vec<(usize, u64, u16)> {
+        pub fn acceptable(&self) -> Vec<(usize, u64, u16)> {
             let glyphs = self.alone.iter().zip(&self.numbers).enumerate();
             glyphs.filter_map(|(k, (glyph, &number))| glyph.as_ref().ok().map(|answer| (k, answer.tests, number))).collect()
         }

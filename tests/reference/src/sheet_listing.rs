@@ -22,11 +22,11 @@ pub fn sheet_listing(sheet: &[u8], allowance: u64) -> String {
 /// A line for each glyph of a sheet that is not refused: the lines of its own listing in one where it was worked, else its number.
 fn glyph_lines(sheet: &[u8], numbers: &[u16]) -> String {
     let parts = sheet::parts(sheet).expect("the sheet is not refused");
-    let line = |(k, (part, number)): (usize, (std::ops::Range<usize>, &u16))| match number {
+    let line = |(k, part)| match numbers[k] {
         0 => format!("glyph {k} {}\n", listing::listing(&sheet[part]).trim_end().replace('\n', " ")),
-        _ => format!("glyph {k} refused {number}\n"),
+        number => format!("glyph {k} refused {number}\n"),
     };
-    parts.into_iter().zip(numbers).enumerate().map(line).collect()
+    parts.into_iter().enumerate().map(line).collect()
 }
 
 #[cfg(test)]

@@ -1,6 +1,7 @@
 //! The cases that the repository keeps, and further ones by their seed.
 
 mod hull_and_stretch;
+mod runs;
 
 use crate::chosen::{self, Chosen};
 use crate::damage;
@@ -18,10 +19,11 @@ use crate::stretch;
 use crate::traced::{self, TracedPoint};
 use crate::two_fixed;
 use crate::vectors::{
-    append, chosen, engine, fixed, from_description, hull, loader, open_sheet, part, reader, stretch, traced, writer, Vector,
+    append, chosen, engine, fixed, from_description, hull, loader, open_sheet, part, reader, run, stretch, traced, writer, Vector,
 };
 use crate::worst;
 use hull_and_stretch::{for_hull, for_stretch, stored_for_hull, stored_for_stretch};
+use runs::{edges_to_run, stored_to_run, to_run};
 
 /// The cases that the repository keeps.
 pub fn stored() -> Vec<Vector> {
@@ -41,6 +43,7 @@ pub fn stored() -> Vec<Vector> {
     vectors.extend(stored_records());
     vectors.extend(edges::stretches().iter().map(|edge| stretch(&edge.given)));
     vectors.extend(stored_for_stretch().iter().chain(&stretch::long()).map(|list| stretch(list)));
+    vectors.extend(edges_to_run().chain(stored_to_run()).map(|case| run(&case)));
     vectors
 }
 
@@ -60,6 +63,7 @@ pub fn drawn(seed: u64, count: usize) -> Vec<Vector> {
     vectors.extend(for_hull(&mut random, count).into_iter().map(hull));
     vectors.extend(records(&mut random, count));
     vectors.extend(for_stretch(&mut random, count).iter().map(|list| stretch(list)));
+    vectors.extend(to_run(&mut random, count).iter().map(run));
     vectors
 }
 
@@ -342,6 +346,7 @@ mod tests {
         assert!([0, 1, 44, 46, 52, 54, 106].iter().all(|length| vectors.iter().filter(other).any(|v| v.bytes.len() == *length)));
     }
 
+    /// All but 16, which is a glyph's and stands in a list of numbers.
     #[test]
     fn every_answer_and_every_refusal_is_among_the_cases() {
         let vectors = stored();
@@ -364,6 +369,7 @@ mod tests {
             NoDisk,
             BadTolerance,
             PointsDoNotFit,
+            TooMuch,
         ] {
             let line = listing::refused(refusal);
             assert!(vectors.iter().any(|v| v.printed.contains(&line)), "{refusal:?}");

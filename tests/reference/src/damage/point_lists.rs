@@ -74,6 +74,11 @@ pub(crate) mod tests {
     /// That of 4,000 drawn lists of up to 60 points so many are of each kind.
     pub fn assert_that_each_kind_is_drawn<D>(draw: Draw, seen_as: fn(Vec<Point>) -> D, kinds: &[KindOfList<D>]) {
         let drawn: Vec<D> = accepted_lists(draw, 1, 4_000, 60).into_iter().map(seen_as).collect();
+        assert_kinds(&drawn, kinds);
+    }
+
+    /// That so many of these are of each kind.
+    pub fn assert_kinds<D>(drawn: &[D], kinds: &[KindOfList<D>]) {
         for (name, least, is_so) in kinds {
             let times = drawn.iter().filter(|drawn| is_so(drawn)).count();
             assert!(times >= *least, "{name}: {times}");

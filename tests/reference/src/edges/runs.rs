@@ -73,22 +73,21 @@ pub fn sheet_of(names: &str) -> Vec<u8> {
     [with_directory(&pairs, &body), gap].concat()
 }
 
-fn count_of(names: &str) -> usize {
-    names.chars().filter(|&name| name != '.').count()
+fn glyphs_of(names: &str) -> impl Iterator<Item = char> + '_ {
+    names.chars().filter(|&name| name != '.')
 }
 
 /// The glyphs, T, the numbers, how many are worked, and what is left.
 type Row<'a> = (&'a str, u64, &'a [u16], usize, u64);
 
 fn ran(&(names, _, numbers, worked, left): &Row) -> Ran {
-    let glyphs = names.chars().filter(|&name| name != '.');
-    let records = glyphs.zip(numbers).filter(|(_, number)| **number == 0).flat_map(|(name, _)| record(name)).collect();
+    let records = glyphs_of(names).zip(numbers).filter(|(_, number)| **number == 0).flat_map(|(name, _)| record(name)).collect();
     Ran { numbers: numbers.to_vec(), records, worked, left }
 }
 
 /// The run with a buffer and a list that are longer than they have to be, and of a short sheet with such that have just room.
 fn with_both_rooms(says: &'static str, row: &Row) -> Vec<Running> {
-    let count = count_of(row.0);
+    let count = glyphs_of(row.0).count();
     let longer = with_rooms(says, row, 53 * count + 70, count + 4);
     if longer.given.sheet.len() > 1_000 {
         return vec![longer];

@@ -23,27 +23,27 @@ pub fn draw(most: usize, random: &mut Random) -> RunCase {
     let count = random.below(most + 1);
     let glyphs = draw_glyphs(count, random);
     let solved = solve_each(glyphs.iter().map(Vec::as_slice));
-    let acceptable = solved.iter().flatten().count();
-    RunCase {
-        allowance: draw_allowance(&needs(&solved), random),
-        buffer: draw_length(LONG.length(), count, acceptable, random).min(MOST_BUFFER),
-        numbers: draw_length(1, count, acceptable, random).min(MOST_NUMBERS),
-        sheet: draw_sheet(glyphs, random),
-    }
+    let (buffer, numbers) = draw_room(count, solved.iter().flatten().count(), random);
+    RunCase { allowance: draw_allowance(&needs(&solved), random), buffer, numbers, sheet: draw_sheet(glyphs, random) }
 }
 
-/// Descriptions, some of them faulty, or none or all.
+/// Descriptions, some of them faulty, or none or all; in one sheet of 200 one has a point too many.
 fn draw_glyphs(count: usize, random: &mut Random) -> Vec<Vec<u8>> {
-    let faulty = random.pick(&[0, 15, 15, 40, 40, 100]);
+    let faulty = random.pick(&[0, 0, 15, 15, 40, 40, 40, 100]);
     let one = |random: &mut Random| match (count <= FEW, random.chance(faulty)) {
         (true, false) => damage::styled(&acceptable(random), random),
         (true, true) => refused(random),
         (false, false) => describe(&cheap(random)),
         (false, true) => random.pick(&["", "\n", "7", "0 -513"]).into(),
     };
-    (0..count).map(|_| one(random)).collect()
+    let mut glyphs: Vec<Vec<u8>> = (0..count).map(|_| one(random)).collect();
+    if count > 0 && random.below(200) == 0 {
+        glyphs[random.below(count)] = b"0 0\n".repeat(MOST_POINTS + 1);
+    }
+    glyphs
 }
 
+/// Cheap, plain or expensive: Welzl's procedure needs many tests for points from the inside out.
 fn acceptable(random: &mut Random) -> Vec<Point> {
     let (kinds, n): (&[Kind], usize) = match random.below(10) {
         0..4 => return cheap(random),
@@ -64,17 +64,16 @@ fn cheap(random: &mut Random) -> Vec<Point> {
     }
 }
 
-/// A description with no point, in one case of a thousand with a point too many, else damaged until it is refused.
+/// A description with no point in one case of five, else one damaged until it is refused.
 fn refused(random: &mut Random) -> Vec<u8> {
-    match random.below(1_000) {
-        0..200 => random.pick(&["", "", "\n", "  \n "]).into(),
-        200 => b"0 0\n".repeat(MOST_POINTS + 1),
-        _ => loop {
-            let text = damage::description(random);
-            if points_of(&text).is_err() {
-                return text;
-            }
-        },
+    if random.chance(20) {
+        return random.pick(&["", "", "\n", "  \n "]).into();
+    }
+    loop {
+        let text = damage::description(random);
+        if points_of(&text).is_err() {
+            return text;
+        }
     }
 }
 
@@ -86,46 +85,57 @@ fn draw_allowance(needs: &[u64], random: &mut Random) -> u64 {
     match random.below(20) {
         0 => 0,
         1..5 => need,
-        5..9 => need.saturating_sub(1),
-        9..11 => need + 1,
-        11..14 => random.below(total as usize + 1) as u64,
-        14 => total,
-        15 => total.saturating_sub(1),
-        16 => total + random.below(100) as u64,
+        5..8 => need.saturating_sub(1),
+        8..10 => need + 1,
+        10..13 => random.below(total as usize + 1) as u64,
+        13 => total,
+        14 => total.saturating_sub(1),
+        15..17 => total + random.below(100) as u64,
         17 => need.saturating_sub(1) + (1 << random.pick(&[16, 31, 32, 33, 53, 59])),
         18 => MOST_ALLOWANCE - random.below(2) as u64,
         _ => random.pick(&[1 << 60, (1 << 60) + need, 1 << 61, 1 << 63, u64::MAX]),
     }
 }
 
-/// Places of this size for all glyphs: exactly, with some to spare, or too few by one or as if faulty glyphs needed none.
-fn draw_length(size: usize, count: usize, acceptable: usize, random: &mut Random) -> usize {
+/// The lengths of buffer and list for so many glyphs; at times as if faulty ones needed no room.
+fn draw_room(count: usize, acceptable: usize, random: &mut Random) -> (usize, usize) {
+    let [buffer, numbers] = [LONG.length(), 1].map(|size| {
+        let count = if random.chance(4) { acceptable } else { count };
+        draw_length(size, count, random)
+    });
+    if random.chance(3) {
+        return (LONG.length() * acceptable, acceptable);
+    }
+    (buffer.min(MOST_BUFFER), numbers.min(MOST_NUMBERS))
+}
+
+/// So many places of this size: exactly, with some to spare, or too few by one.
+fn draw_length(size: usize, count: usize, random: &mut Random) -> usize {
     let exact = size * count;
     match random.below(40) {
         0..24 => exact,
-        24..30 => exact + 1 + random.below(size),
-        30..36 => exact + random.below(20 * size),
-        36 => exact + MOST_BUFFER,
-        37 => size * acceptable,
+        24..31 => exact + 1 + random.below(size),
+        31..37 => exact + random.below(20 * size),
+        37 => exact + MOST_BUFFER,
         _ => exact.saturating_sub(1),
     }
 }
 
-/// The sheet's bytes, at times with gaps; in about one case of twelve damaged, in one of 200 as long as a sheet may be or one byte longer.
+/// The sheet's bytes, at times with gaps; in one case of ten damaged, in four of a thousand as long as a sheet may be or a byte longer.
 fn draw_sheet(glyphs: Vec<Vec<u8>>, random: &mut Random) -> Vec<u8> {
     let gaps = random.pick(&[0, 0, 40]);
     let behind_gaps: Vec<_> = glyphs.into_iter().map(|glyph| (gap(gaps, random), glyph)).collect();
     let (mut pairs, mut body) = laid_out(&behind_gaps);
     body.extend(gap(gaps, random));
-    let damage = random.below(200);
-    if damage < 10 {
+    let damage = random.below(1_000);
+    if damage < 60 {
         damage_pairs(&mut pairs, random);
     }
     let mut sheet = with_directory(&pairs, &body);
     match damage {
-        10..15 => sheet.truncate(random.below(sheet.len())),
-        15..17 => sheet[1] ^= 1,
-        17 => sheet.resize(MOST_BYTES + random.below(2), b'8'),
+        60..90 => sheet.truncate(random.below(sheet.len())),
+        90..100 => sheet[1] ^= 1,
+        100..104 => sheet.resize(MOST_BYTES + random.below(2), b'8'),
         _ => (),
     }
     sheet

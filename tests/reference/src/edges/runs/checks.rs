@@ -9,8 +9,9 @@ pub fn checks() -> impl Iterator<Item = Running> {
     rooms().chain(many()).chain(too_much()).chain(bad_sheets()).chain(long())
 }
 
-fn refused(says: &'static str, given: RunCase, number: u8) -> Running {
-    Edge { says, given, gives: Err(number) }
+/// T and the lengths of buffer and list, a sheet, and the number that the run is refused with.
+fn refused(says: &'static str, (allowance, buffer, numbers): (u64, usize, usize), sheet: Vec<u8>, number: u8) -> Running {
+    Edge { says, given: RunCase { allowance, buffer, numbers, sheet }, gives: Err(number) }
 }
 
 /// The glyphs, T, the lengths of buffer and list, and the numbers with what is left, or a refusal.
@@ -75,14 +76,17 @@ fn rooms() -> impl Iterator<Item = Running> {
             let worked = list.iter().filter(|number| **number == 0).count();
             with_rooms(says, &(names, allowance, list, worked, left), buffer, numbers)
         }
-        Err(number) => refused(says, RunCase { allowance, buffer, numbers, sheet: sheet_of(names) }, number),
+        Err(number) => refused(says, (allowance, buffer, numbers), sheet_of(names), number),
     };
     ROOMS.into_iter().flat_map(move |(says, rows)| rows.iter().map(move |row| edge(says, row)))
 }
 
-/// Sheets of many glyphs, all of them the same: so many, T, the lengths of buffer and list, and how many are worked, or a refusal.
+/// A glyph, how many of it, T, the lengths of buffer and list, and how many are worked, or a refusal.
+type ManyRow = (&'static str, usize, u64, usize, usize, Answer<usize>);
+
+/// Sheets of many glyphs, all of them the same.
 fn many() -> impl Iterator<Item = Running> {
-    let rows: [(&str, usize, u64, usize, usize, Answer<usize>); 13] = [
+    let rows: [ManyRow; 13] = [
         ("a", 256, 255, 13_568, 256, Ok(255)),
         ("a", 257, 256, 13_621, 257, Ok(256)),
         ("a", 257, 256, 53, 257, Err(8)),
@@ -106,7 +110,7 @@ fn many() -> impl Iterator<Item = Running> {
                 let list: Vec<u16> = (0..count).map(|k| if k < worked { 0 } else { other }).collect();
                 with_rooms(says, &(&names, allowance, &list, worked, allowance - worked as u64), buffer, numbers)
             }
-            Err(number) => refused(says, RunCase { allowance, buffer, numbers, sheet: sheet_of(&names) }, number),
+            Err(number) => refused(says, (allowance, buffer, numbers), sheet_of(&names), number),
         }
     })
 }
@@ -136,7 +140,7 @@ fn too_much() -> impl Iterator<Item = Running> {
         ("_", 18_446_744_073_709_551_615, 0, 1, 8),
     ];
     rows.into_iter().map(move |(names, allowance, buffer, numbers, number)| {
-        refused(says, RunCase { allowance, buffer, numbers, sheet: sheet_of(names) }, number)
+        refused(says, (allowance, buffer, numbers), sheet_of(names), number)
     })
 }
 
@@ -146,15 +150,12 @@ fn bad_sheets() -> Vec<Running> {
     let mut bad: Vec<Vec<u8>> = opened.filter(|sheet| sheet.len() < 100).collect();
     bad.dedup();
     let others = [(9, 700, 13), (9, 0, 0), (TOO_MUCH, 700, 13), (TOO_MUCH, 0, 0)];
-    let all = bad.iter().flat_map(|sheet| others.map(|(allowance, buffer, numbers)| (allowance, buffer, numbers, sheet.clone())));
-    let edge = |(allowance, buffer, numbers, sheet)| {
-        refused("Checks: 1, 6, then 8 .. then 17", RunCase { allowance, buffer, numbers, sheet }, 6)
-    };
-    all.map(edge).collect()
+    let edge = |sheet: Vec<u8>| others.map(|lent| refused("Checks: 1, 6, then 8 .. then 17", lent, sheet.clone(), 6));
+    bad.into_iter().flat_map(edge).collect()
 }
 
-/// Sheets of about 65,535 bytes, 0 wherever nothing is said: one without glyphs; one with a part that is wrong, which the rules call 6; one
-/// with a part to its end; and one with three parts of 4,096 points.
+/// Sheets of about 65,535 bytes: one without glyphs and one with a part that starts in the directory, 0 behind what is said; one with a part
+/// to its end, and that with a byte too many; and one with three parts of 4,096 points.
 fn long() -> Vec<Running> {
     let says = "Checks: 1, 6, then 8 .. then 17";
     let (empty, wrong): (&[u8], &[u8]) = (&[0, 0], &[0, 1]);
@@ -167,10 +168,9 @@ fn long() -> Vec<Running> {
     let bad = rows.map(|(start, length, allowance, buffer, numbers, number)| {
         let mut sheet = start.to_vec();
         sheet.resize(length, 0);
-        refused(says, RunCase { allowance, buffer, numbers, sheet }, number)
+        refused(says, (allowance, buffer, numbers), sheet, number)
     });
-    let too_long = [(53, 1), (52, 1)]
-        .map(|(buffer, numbers)| refused(says, RunCase { allowance: 1, buffer, numbers, sheet: sheet_of("s.") }, 1));
+    let too_long = [53, 52].map(|buffer| refused(says, (1, buffer, 1), sheet_of("s."), 1));
     let of_longest = "A sheet has at most 65,535 bytes";
     let three = "mmm".to_string() + &".".repeat(16_369);
     let worked = [

@@ -1,0 +1,29 @@
+//! The reference's listing program for sheets as it is run: the sheet on standard input, the allowance as an argument or none.
+
+use std::io::Write;
+use std::process::{Command, Stdio};
+
+/// Letter F and an empty part.
+const SHEET: &[u8] = b"\x00\x02\x00\x0a\x00\x0c\x00\x16\x00\x000 0\n4 0\n2 3\n";
+
+fn printed(arguments: &[&str]) -> String {
+    let mut child = Command::new(env!("CARGO_BIN_EXE_sheet_listing"))
+        .args(arguments)
+        .stdin(Stdio::piped())
+        .stdout(Stdio::piped())
+        .spawn()
+        .expect("the program starts");
+    child.stdin.take().expect("the input is piped").write_all(SHEET).expect("the sheet is written");
+    let ended = child.wait_with_output().expect("the program ends");
+    assert!(ended.status.success());
+    String::from_utf8(ended.stdout).expect("the listing is text")
+}
+
+#[test]
+fn the_allowance_is_the_argument_or_the_most() {
+    let worked = "glyph 0 disk 12 5 6 169 rim 0 0 2 3 4 0 whole 3 tests 7\nglyph 1 refused 5\nworked 1 left";
+    assert_eq!(printed(&[]), format!("{worked} 1152921504606846968\n"));
+    assert_eq!(printed(&["7"]), format!("{worked} 0\n"));
+    assert_eq!(printed(&["6"]), "glyph 0 refused 16\nglyph 1 refused 5\nworked 0 left 6\n");
+    assert_eq!(printed(&["1152921504606846976"]), "refused 17\n");
+}
