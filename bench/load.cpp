@@ -10,6 +10,7 @@
 #include <string>
 
 #include "../include/volkhidar.h"
+#include "descriptions.hpp"
 #include "lists.hpp"
 #include "load_by_hand.hpp"
 
@@ -28,15 +29,9 @@ const char* name_of(Style style) {
     return style == Style::Signed ? "with signs" : "in columns";
 }
 
-std::string described(const List& list, Style style) {
-    const char* form = style == Style::Plain ? "%d %d\n" : style == Style::Signed ? "%+d %+d\n" : "  %04d  %+05d\n";
-    std::string text;
-    char line[32];
-    for (Point p : list) {
-        std::snprintf(line, sizeof line, form, p.x, p.y);
-        text += line;
-    }
-    return text;
+const char* form_of(Style style) {
+    if (style == Style::Plain) return PLAIN;
+    return style == Style::Signed ? "%+d %+d\n" : "  %04d  %+05d\n";
 }
 
 struct Side {
@@ -63,7 +58,7 @@ void run(Side& side, const std::string& text, int times) {
 }
 
 void compare(Kind kind, size_t n, Style style) {
-    std::string text = described(draw(kind, n, 1), style);
+    std::string text = described(draw(kind, n, 1), form_of(style));
     Side a{ours}, b{theirs};
     int times = std::max(1, int(200000 / text.size()));
     for (int round = 0; round < ROUNDS; round++) {

@@ -26,7 +26,8 @@
  *                  6   sheet shorter than its directory, or its pairs break the rules
  *                  7   a record of another length than 53 or 45 bytes, with another count than its points have, or not valid;
  *                      a disk and support set that a valid record of 53 bytes could not hold
- *                  8   a list under 8,192 numbers; a buffer under 53 bytes
+ *                  8   a list under 8,192 numbers; a buffer under 53 bytes; for the run of a sheet, a buffer under 53 bytes for each
+ *                      glyph or a list under one place for each
  *                  9   a point list of odd length; a list of traced points whose length is not a multiple of three
  *                 10   glyph number not below the count
  *                 11   a NaN, an infinity or a float with a fraction in a point's x or y
@@ -34,6 +35,9 @@
  *                 13   no disk holds the list with the chosen points on its boundary
  *                 14   a tolerance t outside 0 to 50
  *                 15   points that do not belong to their disk
+ *                 16   only in the list that volkhidar_run_sheet fills: a glyph that needs more tests than are left, or comes behind
+ *                      one that does
+ *                 17   an allowance of 2^60 tests or more
  *
  *   Belonging   The points of a support set belong to a disk if their smallest disk is this disk, and with any one of them left out it is
  *               another, or there is none because no point is left. So one point belongs to the disk of radius 0 that it is itself; two
@@ -66,6 +70,10 @@ extern "C" {
 #define VOLKHIDAR_OLD_RECORD_LENGTH 45  /* of a record of an em box of 1,000 units, which is read too */
 #define VOLKHIDAR_MOST_TRACED 1024      /* traced points of a list */
 #define VOLKHIDAR_MOST_TOLERANCE 50     /* of a traced point, in units */
+#define VOLKHIDAR_MOST_GLYPHS 16383     /* of a sheet */
+
+/* Tests that volkhidar_run_sheet can be allowed: 2^60 - 1. */
+#define VOLKHIDAR_MOST_ALLOWANCE UINT64_C(1152921504606846975)
 
 /* A point of the em box: x from 0 to 2048, y from -512 to 1536. */
 typedef struct {
@@ -164,6 +172,11 @@ typedef struct {
     volkhidar_disk disk;
     volkhidar_support support;
 } volkhidar_record_answer;
+
+typedef struct {
+    uint64_t refusal;
+    uint64_t worked, left;
+} volkhidar_run_answer;
 
 /*
  * Reads a description: a point a line, "x y" in decimal, each number of 1 to 4 digits with one plus, one minus or no sign before
@@ -272,6 +285,24 @@ volkhidar_record_answer volkhidar_read_record(const uint8_t *bytes, size_t lengt
  * Refusals, in this order: 8 for a buffer under 53 bytes; then those of volkhidar_load for the description.
  */
 uint64_t volkhidar_record_of(const uint8_t *text, size_t text_length, uint8_t *buffer, size_t buffer_length);
+
+/*
+ * Works the glyphs of a sheet, from the first on, with `allowance` containment tests in all. `numbers` gets a number for each glyph: 0
+ * where it is worked, else its refusal. The records of the worked glyphs go one behind another to the front of `buffer`, 53 bytes each
+ * and no gap where a glyph has none; so the first record is of the first glyph with a 0. Bytes behind the last record and places behind
+ * the last glyph stay. `worked` is how many glyphs were worked, `left` what is left of the allowance.
+ * A description that volkhidar_load refuses gives its refusal (2, 3, 4 or 5), wherever it stands, and costs nothing. Any other glyph is
+ * worked if the tests that volkhidar_smallest_disk counts for it are no more than what is left, which then falls by them, and its record
+ * is that of volkhidar_record_of. From the first glyph that needs more, each with an acceptable description gets 16, even a cheap one:
+ * behind that glyph no disk is worked out.
+ * So the counts of the worked glyphs and `left` make the allowance, and a larger one never changes a glyph that had its record.
+ * A sheet's first two bytes, high byte first, are its count of glyphs, at most 16,383: a buffer of 53 * count bytes and a list of count
+ * places always do.
+ * Refusals, in this order: 1; 6; 8 for a buffer under 53 bytes for each glyph, be it faulty or not, or a list under one place for each; 17
+ * for an allowance of 2^60 or more.
+ */
+volkhidar_run_answer volkhidar_run_sheet(const uint8_t *sheet, size_t sheet_length, uint64_t allowance, uint8_t *buffer,
+                                         size_t buffer_length, uint16_t *numbers, size_t numbers_length);
 
 #ifdef __cplusplus
 }

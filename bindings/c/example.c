@@ -1,8 +1,8 @@
 /*
  * The way of a letter through the library: a description is read, its smallest disk worked out, and a record written and read back.
  * Then the same letter from a drawing program's own values, another letter's disk turned against a stop, a hand-traced letter, a
- * scanned outline that is reduced to its hull, a letter's widest stretch, a damaged record, a disk whose s is above 2^64, and a record of
- * 45 bytes that is written again with 53.
+ * scanned outline that is reduced to its hull, a letter's widest stretch, a damaged record, a disk whose s is above 2^64, a record of
+ * 45 bytes that is written again with 53, and a sheet that is run under an allowance.
  *
  *   bindings/c/run      builds and runs it on letter F of the papers
  *   bindings/c/run -    reads a description from standard input
@@ -16,6 +16,10 @@ static const char letter_f[] = "0 0\n4 0\n2 3\n";
 
 /* Three points near corners of the em box: e is nearly the largest, and s is above 2^64. */
 static const char wide_letter[] = "0 -512\n2048 -509\n1 1536\n";
+
+/* The count and the pairs of offset and length, then four glyphs: a point, a fault, letter F and a point. */
+static const char sheet[] = "\x00\x04" "\x00\x12\x00\x04" "\x00\x16\x00\x02" "\x00\x18\x00\x0c" "\x00\x24\x00\x04"
+                            "0 0\n" "x\n" "0 0\n4 0\n2 3\n" "7 7\n";
 
 static int refused(uint64_t refusal) {
     printf("refused %" PRIu64 "\n", refusal);
@@ -183,6 +187,24 @@ static int write_old_record_again(void) {
     return 0;
 }
 
+/* With 8 tests: the first point takes one and letter F the other 7, so that the point behind it gets 16. 2^60 tests are refused. */
+static int run_sheet(void) {
+    enum { COUNT = 4 };
+    uint8_t buffer[COUNT * VOLKHIDAR_RECORD_LENGTH];
+    uint16_t numbers[COUNT];
+    const uint8_t *bytes = (const uint8_t *)sheet;
+    volkhidar_run_answer run = volkhidar_run_sheet(bytes, sizeof sheet - 1, 8, buffer, sizeof buffer, numbers, COUNT);
+    if (run.refusal) return refused(run.refusal);
+    printf("numbers");
+    for (int k = 0; k < COUNT; k++) printf(" %d", numbers[k]);
+    printf("\nworked %" PRIu64 "\nleft %" PRIu64 "\n", run.worked, run.left);
+    for (uint64_t i = 0; i < run.worked; i++) print_record(buffer + i * VOLKHIDAR_RECORD_LENGTH);
+
+    uint64_t too_much = VOLKHIDAR_MOST_ALLOWANCE + 1;
+    refused(volkhidar_run_sheet(bytes, sizeof sheet - 1, too_much, buffer, sizeof buffer, numbers, COUNT).refusal);
+    return 0;
+}
+
 int main(int argc, char **argv) {
     static uint8_t text[VOLKHIDAR_MOST_BYTES + 1];
     (void)argv;
@@ -191,5 +213,5 @@ int main(int argc, char **argv) {
     }
     return work_out((const uint8_t *)letter_f, sizeof letter_f - 1) || work_out_drawing() || work_out_against_stop() ||
            work_out_traced() || work_out_hull() || work_out_stretch() || read_damaged_record() ||
-           work_out((const uint8_t *)wide_letter, sizeof wide_letter - 1) || write_old_record_again();
+           work_out((const uint8_t *)wide_letter, sizeof wide_letter - 1) || write_old_record_again() || run_sheet();
 }

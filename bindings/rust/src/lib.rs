@@ -27,13 +27,14 @@
 mod raw;
 mod refusal;
 mod shapes;
+mod sheets;
 
 pub use raw::Point;
 pub use refusal::Refusal;
-pub use shapes::{Chosen, Disk, DrawnPoint, Enclosed, Preview, Stretch, SupportSet};
+pub use shapes::{Chosen, Disk, DrawnPoint, Enclosed, Preview, SheetRun, Stretch, SupportSet};
+pub use sheets::{glyph, run_sheet};
 
 use refusal::checked;
-use std::ops::Range;
 
 /// A description or a sheet has at most this many bytes.
 pub const MOST_BYTES: usize = 65_535;
@@ -55,6 +56,12 @@ pub const MOST_TRACED: usize = 1_024;
 
 /// A traced point has at most this tolerance, in units.
 pub const MOST_TOLERANCE: i16 = 50;
+
+/// A sheet has at most this many glyphs.
+pub const MOST_GLYPHS: usize = 16_383;
+
+/// [`run_sheet`] is allowed at most this many containment tests.
+pub const MOST_ALLOWANCE: u64 = (1 << 60) - 1;
 
 /// Reads a description: a point a line, "x y" in decimal, each number of 1 to 4 digits with one plus, one minus or no sign before them.
 /// The points go to the front of the list in the order of the lines, x and y by turns, and the rest of the list stays; the answer is how
@@ -105,26 +112,6 @@ pub fn append_point(point: DrawnPoint, list: &mut [i16], n: usize) -> Result<usi
     let answer = unsafe { raw::volkhidar_append_point(point.into(), list.as_mut_ptr(), list.len(), n) };
     checked(answer.refusal)?;
     Ok(answer.count as usize)
-}
-
-/// Finds part k of a sheet, from 0.
-///
-/// Refuses, in this order: [`Refusal::TooLong`], [`Refusal::BadSheet`], [`Refusal::NoGlyph`].
-///
-/// ```
-/// use volkhidar::{glyph, Refusal};
-///
-/// let sheet = b"\x00\x01\x00\x06\x00\x030 0";
-/// assert_eq!(glyph(sheet, 0), Ok(6..9));
-/// assert_eq!(&sheet[glyph(sheet, 0)?], b"0 0");
-/// assert_eq!(glyph(sheet, 1), Err(Refusal::NoGlyph));
-/// # Ok::<(), Refusal>(())
-/// ```
-pub fn glyph(sheet: &[u8], k: usize) -> Result<Range<usize>, Refusal> {
-    let answer = unsafe { raw::volkhidar_glyph(sheet.as_ptr(), sheet.len(), k) };
-    checked(answer.refusal)?;
-    let start = answer.start as usize;
-    Ok(start..start + answer.length as usize)
 }
 
 /// The smallest disk that holds the points of the list, x and y by turns; its first support set; and the count of containment tests of

@@ -97,6 +97,13 @@ pub struct RecordAnswer {
     pub support: Support,
 }
 
+#[repr(C)]
+pub struct RunAnswer {
+    pub refusal: u64,
+    pub worked: u64,
+    pub left: u64,
+}
+
 extern "C" {
     pub fn volkhidar_load(text: *const u8, text_length: usize, list: *mut i16, list_length: usize) -> LoadAnswer;
     pub fn volkhidar_append_point(point: DrawnPoint, list: *mut i16, list_length: usize, n: usize) -> LoadAnswer;
@@ -111,6 +118,15 @@ extern "C" {
     pub fn volkhidar_write_record(disk: Disk, support: Support, buffer: *mut u8, buffer_length: usize) -> u64;
     pub fn volkhidar_read_record(bytes: *const u8, length: usize) -> RecordAnswer;
     pub fn volkhidar_record_of(text: *const u8, text_length: usize, buffer: *mut u8, buffer_length: usize) -> u64;
+    pub fn volkhidar_run_sheet(
+        sheet: *const u8,
+        sheet_length: usize,
+        allowance: u64,
+        buffer: *mut u8,
+        buffer_length: usize,
+        numbers: *mut u16,
+        numbers_length: usize,
+    ) -> RunAnswer;
 }
 
 #[cfg(test)]
@@ -243,5 +259,26 @@ mod tests {
             let answer = unsafe { volkhidar_widest_stretch(list.as_ptr(), list.len()) };
             assert_eq!((answer.refusal, answer.a, answer.b, answer.w), (refusal, ORIGIN, ORIGIN, 0));
         }
+    }
+
+    /// A sheet of one glyph, the point (0, 0), and runs of it: too long, without its last byte, without a byte of the buffer or the one
+    /// place of the list, with one test too many.
+    #[test]
+    fn a_refused_run_holds_nothing_else() {
+        let mut sheet = [0; 65_536];
+        sheet[..9].copy_from_slice(b"\x00\x01\x00\x06\x00\x030 0");
+        let (mut buffer, mut numbers) = ([0xEE; 53], [0xEEEE]);
+        let mut run = |length, allowance, room, places| {
+            let (written, listed) = (buffer.as_mut_ptr(), numbers.as_mut_ptr());
+            let answer = unsafe { volkhidar_run_sheet(sheet.as_ptr(), length, allowance, written, room, listed, places) };
+            (answer.refusal, answer.worked, answer.left)
+        };
+        assert_eq!(run(65_536, 7, 53, 1), (1, 0, 0));
+        assert_eq!(run(8, 7, 53, 1), (6, 0, 0));
+        assert_eq!(run(9, 7, 52, 1), (8, 0, 0));
+        assert_eq!(run(9, 7, 53, 0), (8, 0, 0));
+        assert_eq!(run(9, 1 << 60, 53, 1), (17, 0, 0));
+        assert_eq!(run(9, 7, 53, 1), (0, 1, 6));
+        assert_eq!((buffer[52], numbers), (1, [0]));
     }
 }

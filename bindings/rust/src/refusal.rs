@@ -19,7 +19,8 @@ pub enum Refusal {
     /// A record of another length than 53 or 45 bytes, with another count than its points have, or not valid; a disk and support set
     /// that a valid record of 53 bytes could not hold.
     BadRecord = 7,
-    /// A list under 8,192 numbers; a buffer under 53 bytes.
+    /// A list under 8,192 numbers; a buffer under 53 bytes; for [`run_sheet`](crate::run_sheet), a buffer under 53 bytes for each glyph or
+    /// a list under one place for each.
     NoRoom = 8,
     /// A point list of odd length; a list of traced points whose length is not a multiple of three.
     OddLength = 9,
@@ -35,10 +36,15 @@ pub enum Refusal {
     BadTolerance = 14,
     /// Points that do not [belong](crate::SupportSet#belonging) to their disk.
     PointsDoNotFit = 15,
+    /// Only in the list that [`run_sheet`](crate::run_sheet) fills: a glyph that needs more tests than are left, or comes behind one that
+    /// does.
+    NotAllowed = 16,
+    /// An allowance of 2⁶⁰ tests or more.
+    TooMuch = 17,
 }
 
 impl Refusal {
-    const ALL: [Refusal; 15] = [
+    const ALL: [Refusal; 17] = [
         Refusal::TooLong,
         Refusal::BadLine,
         Refusal::OutsideBox,
@@ -54,11 +60,26 @@ impl Refusal {
         Refusal::NoDisk,
         Refusal::BadTolerance,
         Refusal::PointsDoNotFit,
+        Refusal::NotAllowed,
+        Refusal::TooMuch,
     ];
 
     /// The number that the C interface and the listing program give it.
     pub fn number(self) -> u8 {
         self as u8
+    }
+
+    /// The refusal of a number, as [`run_sheet`](crate::run_sheet) puts it into its list; none of 0 and of numbers that no refusal has.
+    ///
+    /// ```
+    /// use volkhidar::Refusal;
+    ///
+    /// assert_eq!(Refusal::from_number(16), Some(Refusal::NotAllowed));
+    /// assert_eq!(Refusal::from_number(0), None);
+    /// ```
+    pub fn from_number(number: u16) -> Option<Refusal> {
+        let place = usize::from(number).checked_sub(1)?;
+        Refusal::ALL.get(place).copied()
     }
 }
 
@@ -80,6 +101,8 @@ impl fmt::Display for Refusal {
             Refusal::NoDisk => "no disk holds the list with the chosen points on its boundary",
             Refusal::BadTolerance => "a tolerance t outside 0 to 50",
             Refusal::PointsDoNotFit => "points that do not belong to their disk",
+            Refusal::NotAllowed => "a glyph that needs more tests than are left, or comes behind one that does",
+            Refusal::TooMuch => "an allowance of 2⁶⁰ tests or more",
         })
     }
 }
@@ -101,8 +124,12 @@ mod tests {
     #[test]
     fn numbers_go_round() {
         assert_eq!(checked(0), Ok(()));
-        for number in 1..=15 {
+        for number in 1..=17 {
             assert_eq!(checked(number).map_err(|refusal| u64::from(refusal.number())), Err(number));
+        }
+        for number in 0..=u16::MAX {
+            let refusal = Refusal::from_number(number);
+            assert_eq!(refusal.map(|refusal| refusal.number().into()), (1..=17).contains(&number).then_some(number));
         }
     }
 }

@@ -139,6 +139,15 @@ pub struct Stretch {
     pub w: u64,
 }
 
+/// What [`run_sheet`](crate::run_sheet) answers beside the records and numbers that it writes.
+#[derive(Clone, Copy, PartialEq, Eq, Hash, Debug)]
+pub struct SheetRun {
+    /// How many glyphs were worked: so many records are at the front of the buffer.
+    pub worked: usize,
+    /// What is left of the allowance.
+    pub left: u64,
+}
+
 /// The centre and the whole radius as floats.
 #[derive(Clone, Copy, PartialEq, Debug)]
 pub struct Preview {

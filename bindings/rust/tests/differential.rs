@@ -5,6 +5,7 @@ mod belonging;
 mod hull;
 mod point_lists;
 mod records;
+mod sheet_run;
 mod stretch;
 
 use reference::chosen;
@@ -557,6 +558,9 @@ fn fuzzed_bytes() {
             compare_description(&drawn_bytes(&mut random, 40, b"0123 \n\n -9+x\t\r\0"), 8_192, &name);
         }
         compare_any_choice(&list, &mut random, &name);
+        for bytes in [&any, &few] {
+            sheet_run::compare_any_run(bytes, &mut random, &name);
+        }
     }
 }
 
