@@ -14,6 +14,9 @@ const GREATEST: u64 = 1152921504606846975;
 fn digit(b: u8) -> u64
     ensures { λ r. ⌜ r ≤ 255 ⌝ }
 {
+    if b < b'0' {
+        return 0;
+    }
     (b - b'0') as u64
 }
 
@@ -36,7 +39,7 @@ fn decimal(text: &[u8]) -> Allowance {
     Allowance::Tests(value)
 }
 
-fn allowance() -> Allowance {
+fn read_allowance() -> Allowance {
     if os::arg_count() < 2 {
         return Allowance::Tests(GREATEST);
     }
@@ -57,7 +60,7 @@ fn list(tests: u64) {
 }
 
 fn main() {
-    match allowance() {
+    match read_allowance() {
         Allowance::Tests(t) => list(t),
         Allowance::Unreadable => os::fail(b"allowance"),
     }

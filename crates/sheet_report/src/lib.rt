@@ -74,9 +74,13 @@ fn run(sheet: &[u8], allowance: u64, buffer: &mut [u8], numbers: &mut [u16]) {
     }
 }
 
-// A sheet has at most 16,383 glyphs, and a record 53 bytes.
+// Room for the records of 16,383 glyphs, as many as a sheet can have.
+fn room() -> [u8; 868299] {
+    [0u8; 868299]
+}
+
 pub fn print_sheet(sheet: &[u8], allowance: u64) {
-    let mut buffer = [0u8; 868299];
+    let mut buffer = room();
     let mut numbers = [0u16; 16383];
     run(sheet, allowance, &mut buffer, &mut numbers);
 }

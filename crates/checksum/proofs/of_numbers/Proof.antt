@@ -14,6 +14,9 @@ abbrev μ-loop : tie.MeasureT-loop
 loop-holds : tie.Need-loop-holds Inv-loop μ-loop
 loop-holds c = search needs
 
+mul-wide-number : tie.Need-mul-wide-number Inv-loop μ-loop
+mul-wide-number c = search needs
+
 shared-slice-read-wide-number : tie.Need-shared-slice-read-wide-number Inv-loop μ-loop
 shared-slice-read-wide-number c = search needs
 
@@ -42,6 +45,7 @@ of-numbers-spec =
     Inv-loop
     μ-loop
     loop-holds
+    mul-wide-number
     shared-slice-read-wide-number
     wide-number-requires
     mixed-requires

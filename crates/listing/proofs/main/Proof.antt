@@ -1,22 +1,19 @@
 -- `listing::main` meets its contract: what was read lies within the buffer.
 use Prim.Native.Nat.{_≤_}
-use mathlib.Core.Path.{sym, subst}
+use mathlib.Core.Path.{sym}
 use native.Mathlib.Omega.{arith}
 use lib.ListN.{length}
 use lib.Seq.{length-take-le}
-use Rattle.reading.specs.declared.Input.{Input}
-use Rattle.reading.specs.Reading.{Holds}
+use Rattle.reading.proofs.Within.{read-within}
 use borrow.Author.Needs.{needs}
 use Rattle.listing.proofs.main.Statement.{statement}
 use Rattle.listing.proofs.main.Tie as tie
 
 -- what was read lies within the buffer
-read-within : (c : tie.After-known-told) → c .before .n .given .0 .0 ≤ length (c .before .before .before .before .read-all .last .0)
-read-within c =
-    let read = c .before .before .before .before in
-    let size = length (read .before .before .large-buffer .result) in
-    let h = subst (λ (i : Input). Holds i size) (c .before .n .given .1) (read .read-all .ensures) in
-    omega (arith, h, read .read-all .kept .0)
+within : (c : tie.After-known-told) → c .before .n .given .0 .0 ≤ length (c .before .before .before .before .read-all .last .0)
+within c =
+    let read = c .before .before .before .before .read-all in
+    omega (arith, read-within (read .ensures) (c .before .n .given .1), read .kept .0)
 
 large-buffer-requires : tie.Need-large-buffer-requires
 large-buffer-requires c κs = search needs
@@ -31,10 +28,10 @@ enum-known-n : tie.Need-enum-known-n
 enum-known-n c = search needs
 
 array-share-prefix-text : tie.Need-array-share-prefix-text
-array-share-prefix-text c = read-within c
+array-share-prefix-text c = within c
 
 slice-aggregate-print-description : tie.Need-slice-aggregate-print-description
-slice-aggregate-print-description c = sym (length-take-le _ _ (read-within (c .before)))
+slice-aggregate-print-description c = sym (length-take-le _ _ (within (c .before)))
 
 print-description-requires : tie.Need-print-description-requires
 print-description-requires c κs = search needs
