@@ -27,3 +27,11 @@ fn the_allowance_is_the_argument_or_the_most() {
     assert_eq!(printed(&["6"]), "glyph 0 refused 16\nglyph 1 refused 5\nworked 0 left 6\n");
     assert_eq!(printed(&["1152921504606846976"]), "refused 17\n");
 }
+
+/// `tests/listing/sheets` expects the same of the product's program.
+#[test]
+fn every_sheet_of_the_listing_prints_what_is_expected() {
+    let sheets = concat!(env!("CARGO_MANIFEST_DIR"), "/../listing/sheets");
+    let ended = Command::new(sheets).arg(env!("CARGO_BIN_EXE_sheet_listing")).status().expect("the script starts");
+    assert!(ended.success());
+}
