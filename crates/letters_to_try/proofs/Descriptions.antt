@@ -4,15 +4,13 @@
 --   numbers-read                  : the words of document 02's item 1
 --   each-in                       : points that pass the test are in the list
 --   writings-agree                : the writings
-use mathlib.Core.Path.{_≡_, refl, sym, _∙_, subst}
+use mathlib.Core.Path.{_≡_, refl, _∙_}
 use mathlib.Core.Bool.{true}
 use mathlib.Core.List.{List}
-use Prim.Native.Nat.{ℕ, _≤_}
+use Prim.Native.Nat.{ℕ}
 use Prim.Native.String.{String}
-use native.Mathlib.Omega.{arith}
 use borrow.Author.Tests.{leb-true}
 use lib.Dec.{leb}
-use lib.IntN.{pos}
 use lib.ListN.{length}
 use Rattle.answers.specs.Outcome.{Outcome, given}
 use Rattle.geometry.specs.declared.Point.{Point}

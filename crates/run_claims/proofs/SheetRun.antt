@@ -2,7 +2,7 @@
 --
 --   RunKnown, run-known : what is known of a run that is not refused
 --   sheet-run           : SheetRun
-use mathlib.Core.Path.{_≡_, refl, sym, ap, ap₂, _∙_, subst, subst₂}
+use mathlib.Core.Path.{_≡_, refl, sym, ap, ap₂, _∙_, subst}
 use mathlib.Core.Logic.{_↔_}
 use mathlib.Core.Bool.{Bool, true, false, _&&_, true≢false}
 use mathlib.Core.List.{List, _++_, append-assoc}
@@ -11,17 +11,16 @@ use native.Mathlib.Omega.{arith}
 use borrow.Author.Tests.{le-leb, lt-leb, leb-true, ltb-true, ltb-false}
 use lib.Dec.{leb, ltb, eqb}
 use lib.IntN.{ℤ}
-use lib.ListN.{length, take, drop, getD, List·getD-append}
+use lib.ListN.{length, take, drop, List·getD-append}
 use lib.Seq.{take-at, drop-at}
 use Rattle.integers.proofs.Tests.{first, rest}
 use Rattle.answers.specs.Outcome.{Outcome, given, refused}
-use Rattle.answers.proofs.OutcomeLaws.{both-given, given-same, same-given, not-given}
+use Rattle.answers.proofs.OutcomeLaws.{both-given, given-same, not-given}
 use Rattle.description.specs.Description.{loadOf, named}
 use Rattle.description.proofs.AcceptedTexts.{accepted-room}
 use Rattle.directory.specs.Directory.{count}
 use Rattle.sheet.specs.Sheet.{partAt}
 use Rattle.record_writer.specs.Layout.{recordLength}
-use Rattle.record_writer.specs.Bytes.{recordBytes}
 use Rattle.disks.specs.Procedure.{diskOf}
 use Rattle.disks.specs.Support.{firstSupport}
 use Rattle.engine.specs.Engine.{enclosure}

@@ -1,17 +1,14 @@
 -- The glyphs of a sheet, one at a time, and lists written from the front.
 --
 --   letters-next, letters-done : the glyphs from i on
---   letters-length, letters-at : how many there are, and glyph k
 --   front-kept       : a list that stays behind its first k is its first k before what was behind
-use mathlib.Core.Path.{_≡_, refl, sym, ap, _∙_}
+use mathlib.Core.Path.{_≡_, sym, ap, _∙_}
 use mathlib.Core.List.{List, [], _∷_, map}
-use Prim.Native.Nat.{ℕ, zero, suc, _+_, _-_, _≤_, _<_}
-use native.Mathlib.Nat.{add-zero, add-suc, suc-add}
-use native.Mathlib.Omega.{arith}
-use lib.ListN.{length, take, drop, getD, take-append-drop}
+use Prim.Native.Nat.{ℕ, _+_, _-_, _≤_, _<_}
+use lib.ListN.{length, take, drop, take-append-drop}
 use lib.Seq.{length-take-le}
 use Rattle.answers.specs.Outcome.{Outcome}
-use Rattle.directory.specs.Directory.{Place, pairs}
+use Rattle.directory.specs.Directory.{Place}
 use Rattle.directory.proofs.Directory.{pairs-step, pairs-done}
 use Rattle.sheet.specs.Sheet.{partOf, partAt}
 use Rattle.letter.specs.Letter.{Letter, letterOf}
@@ -30,22 +27,6 @@ module _ (s : List ℕ) where
     pub letters-done : n ≤ i → letters s i (n - i) ≡ []
     unfolding letters
     letters-done h = ap (map letter-at) (pairs-done s i n h)
-
-  pub letters-length : (i n : ℕ) → length (letters s i n) ≡ n
-  unfolding letters pairs
-  letters-length i zero = refl
-  letters-length i (suc n) = ap suc (letters-length (suc i) n)
-
-  pub letters-at : (i n k : ℕ) (d : Outcome Letter) → k < n → getD (letters s i n) k d ≡ letterOf (partAt s (i + k))
-  unfolding letters pairs
-  letters-at i zero k d h = absurd (none k h)
-    where
-      none : (k : ℕ) → k < 0 → ⊥
-      none k h = omega arith
-  letters-at i (suc n) zero d h = ap (λ (j : ℕ). letterOf (partAt s j)) (sym (add-zero i))
-  letters-at i (suc n) (suc k) d h =
-      let e : suc i + k ≡ i + suc k = suc-add i k ∙ sym (add-suc i k) in
-      letters-at (suc i) n k d (omega arith) ∙ ap (λ (j : ℕ). letterOf (partAt s j)) e
 
 pub front-kept : (k : ℕ) (l l₀ : List ℕ) → k ≤ length l → drop k l ≡ drop k l₀ → l ≡ frontPut (take k l) l₀
 front-kept k l l₀ h e = sym (take-append-drop k l) ∙ rw (length-take-le k l h, e)

@@ -1,6 +1,5 @@
 -- `directory::count_glyphs` meets its contract: the tests that led to each `return` say to which end the row of checks comes.
 use mathlib.Core.Path.{_≡_, sym, ap, _∙_, subst}
-use mathlib.Core.Bool.{true}
 use mathlib.Core.List.{List}
 use Prim.Native.Nat.{ℕ, _+_, _*_, _≤_, _<_}
 use native.Mathlib.Omega.{arith}

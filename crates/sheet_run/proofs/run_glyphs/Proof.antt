@@ -1,6 +1,6 @@
 -- `sheet_run::run_glyphs` meets its contract. The loop's invariant is `Reached`, and that the list keeps its length; the measure is what is left of the
 -- count.
-use mathlib.Core.Path.{_≡_, refl, sym, ap, _∙_}
+use mathlib.Core.Path.{_≡_, refl, sym, ap}
 use Prim.Native.Nat.{_-_}
 use native.Mathlib.Omega.{arith}
 use borrow.Author.Needs.{needs}
