@@ -76,13 +76,26 @@ fn judge(text: &[u8], found: &mut [i16]) -> Loaded
     Loaded::Points(n)
 }
 
-// The loader's work where text and list have the size that they need: the points stand in found until the whole text is judged.
+// The loader's answer, for a list that the caller has no other use for: the points go to its front as they are read, and where the
+// text is refused it holds anything.
+pub fn load_into(text: &[u8], list: &mut [i16]) -> Loaded
+    requires { ⌜ 8192 ≤ length (now list) ⌝ }
+    ensures { λ r. ⌜ outcome r ≡ loadOf (now (text .entry)) (now (list .entry)) ⌝ }
+    ensures { λ r. ⌜ Kept r (now (list .exit)) (named (now (text .entry))) ⌝ }
+{
+    if BYTES < text.len() {
+        return Loaded::Refused(Refusal::TooLong);
+    }
+    judge(text, list)
+}
+
+// The loader's work where the list has the size that it needs: the points stand in found until the whole text is judged.
 fn load_through(text: &[u8], found: &mut [i16], list: &mut [i16]) -> Loaded
-    requires { ⌜ (8192 ≤ length (now found)) × (8192 ≤ length (now list)) × (length (now text) ≤ 65535) ⌝ }
+    requires { ⌜ (8192 ≤ length (now found)) × (8192 ≤ length (now list)) ⌝ }
     ensures { λ r. ⌜ outcome r ≡ loadOf (now (text .entry)) (now (list .entry)) ⌝ }
     ensures { λ _. ⌜ now (list .exit) ≡ listAfter (now (text .entry)) (now (list .entry)) ⌝ }
 {
-    match judge(text, found) {
+    match load_into(text, found) {
         Loaded::Points(n) => {
             point_lists::copy_front(found, 2 * n, list);
             Loaded::Points(n)
@@ -98,9 +111,6 @@ pub fn load(text: &[u8], list: &mut [i16]) -> Loaded
 {
     if list.len() < NUMBERS {
         return Loaded::Refused(Refusal::NoRoom);
-    }
-    if BYTES < text.len() {
-        return Loaded::Refused(Refusal::TooLong);
     }
     let mut found = [0i16; NUMBERS];
     load_through(text, &mut found, list)

@@ -2,6 +2,7 @@
 --
 --   enclosed-flat      : the engine, given the points of a list alone, refuses none of 1 to 4,096 points in the em box
 --   enclosure-loaded   : loader, then engine, by what the loader gives
+--   named-enclosed     : the engine, given the points that an accepted description names
 --   enclosure-given, enclosure-refused : of these only the loader refuses
 --   room-long          : the list of its own is long enough
 --   enclosure-any      : in any list that is long enough they give the same
@@ -73,13 +74,16 @@ module _ (text : List ℕ) (list : List ℤ) where
   unfolding enclosureIn
   enclosure-refused k h = ap (λ (o : Outcome ℕ). andThen o enclosed) h
 
-  pub enclosure-given : (n : ℕ) → loadOf text list ≡ given n → enclosureIn text list ≡ given (enclosure (named text))
-  enclosure-given n loads =
+  pub named-enclosed : (n : ℕ) → loadOf text list ≡ given n → encloseOf (flat (named text)) ≡ given (enclosure (named text))
+  named-enclosed n loads =
       let count = accepted-count text list n loads in
       let some = subst (λ (k : ℕ). 1 ≤ k) count (accepted-some text list n loads) in
       let few = subst (λ (k : ℕ). k ≤ 4096) count (accepted-few text list n loads) in
       let boxed = members-box (named text) (λ p i. true-test (accepted-in-box text list n loads p i)) in
-      enclosure-loaded n loads ∙ ap encloseOf (accepted-front text list n loads) ∙ enclosed-flat (named text) some few boxed
+      enclosed-flat (named text) some few boxed
+
+  pub enclosure-given : (n : ℕ) → loadOf text list ≡ given n → enclosureIn text list ≡ given (enclosure (named text))
+  enclosure-given n loads = enclosure-loaded n loads ∙ ap encloseOf (accepted-front text list n loads) ∙ named-enclosed n loads
 
   pub enclosure-checked : (e : Enclosure) → enclosureIn text list ≡ given e → checkOf (e .disk) (e .support) ≡ given tt
   enclosure-checked e h = by-load (loadOf text list) refl

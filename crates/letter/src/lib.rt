@@ -20,7 +20,7 @@ pub fn enclose_in(text: &[u8], list: &mut [i16]) -> Enclosed
     requires { ⌜ 8192 ≤ length (now list) ⌝ }
     ensures { λ r. ⌜ engine.outcome r ≡ enclosureOf (now (text .entry)) ⌝ }
 {
-    match description::load(text, list) {
+    match description::load_into(text, list) {
         Loaded::Points(n) => engine::smallest_disk(&mut list[..2 * n]),
         Loaded::Refused(r) => Enclosed::Refused(r),
     }

@@ -45,7 +45,7 @@ fn pass_over(text: &[u8], list: &mut [i16]) -> u16
     requires { ⌜ 8192 ≤ length (now list) ⌝ }
     ensures { λ n. ⌜ n ≡ passedOver (letterOf (now (text .entry))) ⌝ }
 {
-    match description::load(text, list) {
+    match description::load_into(text, list) {
         Loaded::Points(_) => code(Refusal::NotAllowed),
         Loaded::Refused(r) => code(r),
     }

@@ -1,4 +1,4 @@
--- `description::load_through` meets its contract: the verdict on the lines is the answer; the points are copied where nothing is refused.
+-- `description::load_through` meets its contract: the answer is that for the list that is read into; the points are copied where nothing is refused.
 use Prim.Native.Nat.{_*_, _≤_}
 use mathlib.Core.Path.{_≡_, sym, _∙_, ap, subst}
 use native.Mathlib.Omega.{arith}
@@ -9,31 +9,32 @@ use Rattle.geometry.specs.Points.{flat}
 use Rattle.description.specs.declared.Loaded.{Loaded}
 use Rattle.description.specs.Description.{named, loadOf, outcome}
 use Rattle.description.specs.Verdict.{Kept}
-use Rattle.description.proofs.Loading.{load-judged, after-refused, after-given, front-pasted}
+use Rattle.description.proofs.Loading.{after-refused, after-given, front-pasted}
+use Rattle.description.proofs.AcceptedTexts.{load-same}
 use Rattle.description.proofs.load_through.Statement.{statement}
 use Rattle.description.proofs.load_through.Tie as tie
 
--- the verdict is the loader's answer
-judged : (c : tie.After-judge) → let a = c .before .before .before .args in outcome (c .judge .result) ≡ loadOf (a .text .now) (a .list .now)
+-- the answer is the same whichever list is lent
+judged : (c : tie.After-load-into) → let a = c .before .before .before .args in outcome (c .load-into .result) ≡ loadOf (a .text .now) (a .list .now)
 judged c =
     let s = c .before .before .before in
     let a = s .args in
-    c .judge .ensures .0 ∙ sym (load-judged (a .text .now) (a .list .now) (s .pre .1) (s .pre .2))
+    c .load-into .ensures .0 ∙ load-same (a .text .now) (a .found .now) (a .list .now) (s .pre .0) (s .pre .1)
 
 kept : (c : tie.After-n) →
     let j = c .before .before .before in
     let a = j .before .before .before .args in
-    (take (2 * c .n .given .0 .0) (j .judge .last .1 .0) ≡ flat (named (a .text .now))) × (c .n .given .0 .0 ≤ 4096)
+    (take (2 * c .n .given .0 .0) (j .load-into .last .1 .0) ≡ flat (named (a .text .now))) × (c .n .given .0 .0 ≤ 4096)
 kept c =
     let j = c .before .before .before in
     let a = j .before .before .before .args in
-    subst (λ (r : Loaded). Kept r (j .judge .last .1 .0) (named (a .text .now))) (c .n .given .1) (j .judge .ensures .1)
+    subst (λ (r : Loaded). Kept r (j .load-into .last .1 .0) (named (a .text .now))) (c .n .given .1) (j .load-into .ensures .1)
 
-fits : (c : tie.After-n) → 2 * c .n .given .0 .0 ≤ length (c .before .before .before .judge .last .1 .0)
-fits c = omega (arith, kept c .1, c .before .before .before .judge .kept, c .before .before .before .before .before .before .pre .0)
+fits : (c : tie.After-n) → 2 * c .n .given .0 .0 ≤ length (c .before .before .before .load-into .last .1 .0)
+fits c = omega (arith, kept c .1, c .before .before .before .load-into .kept, c .before .before .before .before .before .before .pre .0)
 
-judge-requires : tie.Need-judge-requires
-judge-requires c κs = search needs
+load-into-requires : tie.Need-load-into-requires
+load-into-requires c κs = search needs
 
 enum-known-n : tie.Need-enum-known-n
 enum-known-n c = search needs
@@ -45,7 +46,7 @@ copy-front-requires : tie.Need-copy-front-requires
 copy-front-requires c κs =
     let n = c .before .before .before in
     let s = n .before .before .before .before .before .before in
-    (omega (arith, kept n .1, n .before .before .before .judge .kept, s .pre .0), omega (arith, kept n .1, n .before .before .before .judge .kept, s .pre .1))
+    (omega (arith, kept n .1, n .before .before .before .load-into .kept, s .pre .0), omega (arith, kept n .1, n .before .before .before .load-into .kept, s .pre .1))
 
 enum-known-r : tie.Need-enum-known-r
 enum-known-r c = search needs
@@ -64,7 +65,7 @@ returns c =
     let e : given (v .n .given .0 .0) ≡ loadOf (a .text .now) (a .list .now) = ap outcome (sym (v .n .given .1)) ∙ judged j in (
       e,
       c .before .copy-front .ensures
-          ∙ front-pasted (a .list .now) (j .judge .last .1 .0) (named (a .text .now)) (2 * v .n .given .0 .0) (fits v) (kept v .0)
+          ∙ front-pasted (a .list .now) (j .load-into .last .1 .0) (named (a .text .now)) (2 * v .n .given .0 .0) (fits v) (kept v .0)
           ∙ sym (after-given (a .text .now) (a .list .now) (v .n .given .0 .0) (sym e)),
     )
 
@@ -83,7 +84,7 @@ pub load-through-spec : {M : Type 1} → statement M
 load-through-spec =
     tie.close
     (tie.spec
-    judge-requires
+    load-into-requires
     enum-known-n
     mul-copy-front
     copy-front-requires

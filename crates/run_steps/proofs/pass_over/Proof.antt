@@ -11,7 +11,7 @@ use Rattle.run_steps.proofs.pass_over.Statement.{statement}
 use Rattle.run_steps.proofs.pass_over.Tie as tie
 
 -- what is lent
-module _ (c : tie.After-load) where
+module _ (c : tie.After-load-into) where
   abbrev lent : tie.Start
   lent = c .before .before .before
 
@@ -21,8 +21,8 @@ module _ (c : tie.After-load) where
   abbrev list : List ℤ
   list = lent .args .list .now
 
-load-requires : tie.Need-load-requires
-load-requires c κs = search needs
+load-into-requires : tie.Need-load-into-requires
+load-into-requires c κs = search needs
 
 enum-told : tie.Need-enum-told
 enum-told c = search needs
@@ -43,7 +43,7 @@ returns : tie.Need-returns
 returns c =
     let l = c .before .before .before .before in
     c .code .ensures
-    ∙ sym (ap passedOver (letter-loaded (text l) (list l) (lent l .pre) _ (sym (l .load .ensures .0) ∙ ap outcome (c .before .enum-told .given .1))))
+    ∙ sym (ap passedOver (letter-loaded (text l) (list l) (lent l .pre) _ (sym (l .load-into .ensures .0) ∙ ap outcome (c .before .enum-told .given .1))))
 
 same-length-2 : tie.Need-same-length-2
 same-length-2 c = search needs
@@ -52,13 +52,13 @@ returns-2 : tie.Need-returns-2
 returns-2 c =
     let r = c .before .before in
     let l = r .before .before .before in
-    c .code2 .ensures ∙ sym (ap passedOver (letter-unloaded (text l) (list l) (lent l .pre) _ (sym (l .load .ensures .0) ∙ ap outcome (r .r .given .1))))
+    c .code2 .ensures ∙ sym (ap passedOver (letter-unloaded (text l) (list l) (lent l .pre) _ (sym (l .load-into .ensures .0) ∙ ap outcome (r .r .given .1))))
 
 pub pass-over-spec : {M : Type 1} → statement M
 pass-over-spec =
     tie.close
     (tie.spec
-    load-requires
+    load-into-requires
     enum-told
     code-requires
     enum-known-r
