@@ -13,8 +13,8 @@ pub struct RunAnswer {
 
 pub fn run_sheet(sheet: &[u8], allowance: u64, buffer: &mut [u8], numbers: &mut [u16]) -> RunAnswer
     ensures { λ r. ⌜ r ≡ runAnswer (answerOf (runOf (now (sheet .entry)) allowance (now (buffer .entry)) (now (numbers .entry)))) ⌝ }
-    ensures { λ _. ⌜ now (buffer .exit) ≡ bufferAfter (runOf (now (sheet .entry)) allowance (now (buffer .entry)) (now (numbers .entry))) (now (buffer .entry)) ⌝ }
-    ensures { λ _. ⌜ now (numbers .exit) ≡ numbersAfter (runOf (now (sheet .entry)) allowance (now (buffer .entry)) (now (numbers .entry))) (now (numbers .entry)) ⌝ }
+    ensures { λ _. ⌜ now (buffer .exit) ≡ bufferAfter (now (sheet .entry)) allowance (now (buffer .entry)) (now (numbers .entry)) ⌝ }
+    ensures { λ _. ⌜ now (numbers .exit) ≡ numbersAfter (now (sheet .entry)) allowance (now (buffer .entry)) (now (numbers .entry)) ⌝ }
 {
     let ran = sheet_run::run_sheet(sheet, allowance, buffer, numbers);
     match ran {

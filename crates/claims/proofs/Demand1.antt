@@ -7,7 +7,7 @@ use Rattle.drawn_points.proofs.Behind.{append-refused}
 use Rattle.hull_points.proofs.Answers.{list-kept}
 use Rattle.record_writer.specs.Writing.{leftBy}
 use Rattle.run_steps.specs.Steps.{State}
-use Rattle.sheet_run.specs.Running.{bufferAfter, numbersAfter}
+use Rattle.sheet_run.specs.Running.{bufferBy, numbersBy}
 use Rattle.rules.proofs.Calls as calls
 use Rattle.claims.specs.Demand1.{Demand1}
 
@@ -31,5 +31,5 @@ demand-one = record {
   writer-keeps = λ d ps b n e. ap (λ (o : Outcome (Unit {0})). leftBy o d ps b) e;
   append-keeps = λ p l n k e. append-refused p l n e;
   hull-keeps = λ l n e. list-kept l e;
-  run-keeps = λ s t b ns n e. (ap (λ (o : Outcome State). bufferAfter o b) e, ap (λ (o : Outcome State). numbersAfter o ns) e);
+  run-keeps = λ s t b ns n e. (ap (λ (o : Outcome State). bufferBy o b) e, ap (λ (o : Outcome State). numbersBy o ns) e);
 }

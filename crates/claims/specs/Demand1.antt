@@ -60,4 +60,4 @@ pub record Demand1 : Type 0 where
   pub hull-keeps : (l : List ℤ) (n : ℕ) → reduceOf l ≡ refused n → reducing.listAfter l ≡ l
   pub run-keeps :
       (s : List ℕ) (t : ℕ) (b ns : List ℕ) (n : ℕ) → runOf s t b ns ≡ refused n
-      → (running.bufferAfter (runOf s t b ns) b ≡ b) × (running.numbersAfter (runOf s t b ns) ns ≡ ns)
+      → (running.bufferAfter s t b ns ≡ b) × (running.numbersAfter s t b ns ≡ ns)

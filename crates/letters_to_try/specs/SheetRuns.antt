@@ -64,7 +64,7 @@ AllRun (r ∷ rs) = (answerOf (runOf (r .of) (r .allowance) (buffer (r .room)) (
 
 -- the records of A and C, one behind the other; "Bytes and places behind the last written stay"; "A faulty description keeps its own refusal anywhere"
 pub record Left : Type 0 where
-  pub numbers : numbersAfter (runOf sheet 10 (buffer 318) (list 8)) (list 8) ≡ 0 ∷ 2 ∷ 0 ∷ 5 ∷ 16 ∷ 16 ∷ 99 ∷ 99 ∷ []
+  pub numbers : numbersAfter sheet 10 (buffer 318) (list 8) ≡ 0 ∷ 2 ∷ 0 ∷ 5 ∷ 16 ∷ 16 ∷ 99 ∷ 99 ∷ []
   pub records :
-      bufferAfter (runOf sheet 10 (buffer 318) (list 8)) (buffer 318)
+      bufferAfter sheet 10 (buffer 318) (list 8)
       ≡ one high ++ a ++ a ++ a ++ (1 ∷ []) ++ centre 2 0 1 ++ high ++ eight 4 ++ a ++ c ++ c ++ (2 ∷ []) ++ buffer 212

@@ -27,7 +27,7 @@ use Rattle.engine.specs.Engine.{enclosure}
 use Rattle.letter.specs.Letter.{room, Letter, letter, letterOf}
 use Rattle.letter.proofs.Whole.{room-long, letter-loaded, letter-unloaded, letter-named}
 use Rattle.run_steps.specs.Steps.{State, tried, step}
-use Rattle.sheet_run.specs.Running.{runOf, answerOf, frontPut, bufferAfter, numbersAfter}
+use Rattle.sheet_run.specs.Running.{runOf, answerOf, frontPut, bufferBy, numbersBy, bufferAfter, numbersAfter}
 use Rattle.sheet_run.proofs.Rows.{run-is}
 use Rattle.claims.specs.Values.{glyphBytes}
 use Rattle.claims.specs.Demand3.{AcceptedDescription, Answers, worked}
@@ -91,16 +91,16 @@ module _ (s : List ℕ) (t : ℕ) (b ns : List ℕ) (w l : ℕ) (z : RunKnown s 
   end = up s t n
 
   abbrev after : List ℕ
-  after = bufferAfter (runOf s t b ns) b
+  after = bufferAfter s t b ns
 
   abbrev numbers : List ℕ
-  numbers = numbersAfter (runOf s t b ns) ns
+  numbers = numbersAfter s t b ns
 
   after-is : after ≡ frontPut (end .records) b
-  after-is = ap (λ (o : Outcome State). bufferAfter o b) (z .comes-to)
+  after-is = ap (λ (o : Outcome State). bufferBy o b) (z .comes-to)
 
   numbers-are : numbers ≡ frontPut (end .numbers) ns
-  numbers-are = ap (λ (o : Outcome State). numbersAfter o ns) (z .comes-to)
+  numbers-are = ap (λ (o : Outcome State). numbersBy o ns) (z .comes-to)
 
   number-at : (k : ℕ) → k < n → numberAt numbers k ≡ noted (glyph s k) (up s t k)
   number-at k h =
@@ -255,10 +255,10 @@ same-worked ns ms (suc k) h =
 
 module _ (s : List ℕ) (t u : ℕ) (larger : t ≤ u) (b ns c ms : List ℕ) (w l x m : ℕ) (z : RunKnown s t b ns w l) (y : RunKnown s u c ms x m) where
   abbrev less : List ℕ
-  less = numbersAfter (runOf s t b ns) ns
+  less = numbersAfter s t b ns
 
   abbrev more : List ℕ
-  more = numbersAfter (runOf s u c ms) ms
+  more = numbersAfter s u c ms
 
   same-number : (k : ℕ) → k < count s → numberAt less k ≡ 0 → (i : ℕ) → i ≤ k → numberAt more i ≡ numberAt less i
   same-number k below e i h =
@@ -271,7 +271,7 @@ module _ (s : List ℕ) (t u : ℕ) (larger : t ≤ u) (b ns c ms : List ℕ) (w
       ∙ number-is s t (suc k) i here
       ∙ sym (number-at s t b ns w l z i (omega arith))
 
-  keeps : LargerKeeps s (bufferAfter (runOf s t b ns) b) less (bufferAfter (runOf s u c ms) c) more
+  keeps : LargerKeeps s (bufferAfter s t b ns) less (bufferAfter s u c ms) more
   keeps = record {
     same-numbers = same-number;
     same-place = λ k below e. same-worked less more k (λ i h. same-number k below e i (omega arith));

@@ -92,8 +92,8 @@ pub record SheetRun : Type 0 where
   pub described : (s : List ℕ) (k : ℕ) (d : List ℕ) → glyphBytes s k ≡ given d → (k < count s) × (d ≡ partAt s k)
   pub fair :
       (s : List ℕ) (t : ℕ) (b ns : List ℕ) (w l : ℕ) → answerOf (runOf s t b ns) ≡ given (w, l)
-      → RunIsFair s t b ns w l (bufferAfter (runOf s t b ns) b) (numbersAfter (runOf s t b ns) ns)
+      → RunIsFair s t b ns w l (bufferAfter s t b ns) (numbersAfter s t b ns)
   pub larger :
       (s : List ℕ) (t u : ℕ) → t ≤ u → (b ns c ms : List ℕ) (w l x m : ℕ)
       → answerOf (runOf s t b ns) ≡ given (w, l) → answerOf (runOf s u c ms) ≡ given (x, m)
-      → LargerKeeps s (bufferAfter (runOf s t b ns) b) (numbersAfter (runOf s t b ns) ns) (bufferAfter (runOf s u c ms) c) (numbersAfter (runOf s u c ms) ms)
+      → LargerKeeps s (bufferAfter s t b ns) (numbersAfter s t b ns) (bufferAfter s u c ms) (numbersAfter s u c ms)

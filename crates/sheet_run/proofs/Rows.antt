@@ -18,7 +18,7 @@ use Rattle.record_writer.specs.Layout.{recordLength}
 use Rattle.directory.specs.Directory.{countOf}
 use Rattle.directory.proofs.Rows.{count-known}
 use Rattle.run_steps.specs.Steps.{State}
-use Rattle.sheet_run.specs.Running.{ran, runOf, answerOf, bufferAfter, numbersAfter}
+use Rattle.sheet_run.specs.Running.{ran, runOf, answerOf, bufferBy, numbersBy, bufferAfter, numbersAfter}
 
 module _ (s : List ℕ) (t : ℕ) (b ns : List ℕ) where
   pub run-refused : (k : ℕ) → countOf s ≡ refused k → runOf s t b ns ≡ refused k
@@ -55,5 +55,5 @@ module _ (s : List ℕ) (t : ℕ) (b ns : List ℕ) where
       (count-known s n (counts .1 .0) .short, sym (given-same (not-refused (leb (2 ^ 60) t) 17 (places .1) .1)))
 
   pub run-told : (o : Outcome State) → runOf s t b ns ≡ o
-      → (answerOf o ≡ answerOf (runOf s t b ns)) × ((bufferAfter o b ≡ bufferAfter (runOf s t b ns) b) × (numbersAfter o ns ≡ numbersAfter (runOf s t b ns) ns))
-  run-told o e = (sym (ap answerOf e), (sym (ap (λ (r : Outcome State). bufferAfter r b) e), sym (ap (λ (r : Outcome State). numbersAfter r ns) e)))
+      → (answerOf o ≡ answerOf (runOf s t b ns)) × ((bufferBy o b ≡ bufferAfter s t b ns) × (numbersBy o ns ≡ numbersAfter s t b ns))
+  run-told o e = (sym (ap answerOf e), (sym (ap (λ (r : Outcome State). bufferBy r b) e), sym (ap (λ (r : Outcome State). numbersBy r ns) e)))

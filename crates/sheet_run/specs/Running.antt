@@ -6,7 +6,8 @@
 --                       1, 6, then 8 if the buffer lacks a record's bytes for each glyph or the list a place, then 17 for 2⁶⁰ or more
 --   answerOf o       == how many were worked, and what is left of the allowance
 --   frontPut new l   == the list l with the numbers new at its front, and the places behind as they were
---   bufferAfter o b, numbersAfter o ns == the buffer and the list afterwards; refused, as they were
+--   bufferBy o b, numbersBy o ns == what a run that comes to o leaves in the buffer and in the list; refused, what was there
+--   bufferAfter s t b ns, numbersAfter s t b ns == the buffer and the list afterwards
 --   outcome r        == the answer r as its two numbers, or its refusal's
 use mathlib.Core.List.{List, _++_, map}
 use Prim.Native.Nat.{ℕ, _*_, _^_}
@@ -44,13 +45,19 @@ answerOf o = andThen o (λ s. given (s .worked, s .left))
 abbrev pub frontPut : List ℕ → List ℕ → List ℕ
 frontPut new l = new ++ drop (length new) l
 
-abbrev pub bufferAfter : Outcome State → List ℕ → List ℕ
-bufferAfter (given s) b = frontPut (s .records) b
-bufferAfter (refused n) b = b
+abbrev pub bufferBy : Outcome State → List ℕ → List ℕ
+bufferBy (given s) b = frontPut (s .records) b
+bufferBy (refused n) b = b
 
-abbrev pub numbersAfter : Outcome State → List ℕ → List ℕ
-numbersAfter (given s) ns = frontPut (s .numbers) ns
-numbersAfter (refused n) ns = ns
+abbrev pub numbersBy : Outcome State → List ℕ → List ℕ
+numbersBy (given s) ns = frontPut (s .numbers) ns
+numbersBy (refused n) ns = ns
+
+abbrev pub bufferAfter : List ℕ → ℕ → List ℕ → List ℕ → List ℕ
+bufferAfter s t b ns = bufferBy (runOf s t b ns) b
+
+abbrev pub numbersAfter : List ℕ → ℕ → List ℕ → List ℕ → List ℕ
+numbersAfter s t b ns = numbersBy (runOf s t b ns) ns
 
 abbrev pub outcome : Ran → Outcome (ℕ × ℕ)
 outcome (Done worked left) = given (worked, left)

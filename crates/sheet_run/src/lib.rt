@@ -69,8 +69,8 @@ fn run_in_list(
 // the buffer, and the list gets a number for each glyph: 0 or its refusal.
 pub fn run_sheet(sheet: &[u8], allowance: u64, buffer: &mut [u8], numbers: &mut [u16]) -> Ran
     ensures { λ r. ⌜ outcome r ≡ answerOf (runOf (now (sheet .entry)) allowance (now (buffer .entry)) (now (numbers .entry))) ⌝ }
-    ensures { λ _. ⌜ now (buffer .exit) ≡ bufferAfter (runOf (now (sheet .entry)) allowance (now (buffer .entry)) (now (numbers .entry))) (now (buffer .entry)) ⌝ }
-    ensures { λ _. ⌜ now (numbers .exit) ≡ numbersAfter (runOf (now (sheet .entry)) allowance (now (buffer .entry)) (now (numbers .entry))) (now (numbers .entry)) ⌝ }
+    ensures { λ _. ⌜ now (buffer .exit) ≡ bufferAfter (now (sheet .entry)) allowance (now (buffer .entry)) (now (numbers .entry)) ⌝ }
+    ensures { λ _. ⌜ now (numbers .exit) ≡ numbersAfter (now (sheet .entry)) allowance (now (buffer .entry)) (now (numbers .entry)) ⌝ }
 {
     match directory::count_glyphs(sheet) {
         Counted::Glyphs(count) => {

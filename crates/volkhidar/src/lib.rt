@@ -157,8 +157,8 @@ pub extern "C" fn volkhidar_run_sheet(
     list: &mut [u16],
 ) -> RunAnswer
     ensures { λ r. ⌜ r ≡ runAnswer (runs.answerOf (runs.runOf (now (sheet .entry)) allowance (now (buf .entry)) (now (list .entry)))) ⌝ }
-    ensures { λ _. ⌜ now (buf .exit) ≡ runs.bufferAfter (runs.runOf (now (sheet .entry)) allowance (now (buf .entry)) (now (list .entry))) (now (buf .entry)) ⌝ }
-    ensures { λ _. ⌜ now (list .exit) ≡ runs.numbersAfter (runs.runOf (now (sheet .entry)) allowance (now (buf .entry)) (now (list .entry))) (now (list .entry)) ⌝ }
+    ensures { λ _. ⌜ now (buf .exit) ≡ runs.bufferAfter (now (sheet .entry)) allowance (now (buf .entry)) (now (list .entry)) ⌝ }
+    ensures { λ _. ⌜ now (list .exit) ≡ runs.numbersAfter (now (sheet .entry)) allowance (now (buf .entry)) (now (list .entry)) ⌝ }
 {
     c_run::run_sheet(sheet, allowance, buf, list)
 }

@@ -70,7 +70,8 @@ returns-4 c =
 returns-5 : tie.Need-returns-5
 returns-5 c =
     let d = c .before .before .before in
-    ap given (count-is d) ∙ count-given (bytes d) (short d) (whole (c .before .before)) (sym (rule-is (c .before)) ∙ not-false (c .before .in-order .result) (c .if4 .left))
+    let holds = sym (rule-is (c .before)) ∙ not-false (c .before .in-order .result) (c .if4 .left) in
+    ap given (count-is d) ∙ count-given (bytes d) (short d) (whole (c .before .before)) holds
 
 pub count-glyphs-spec : {M : Type 1} → statement M
 count-glyphs-spec =
