@@ -4,7 +4,7 @@
 --   load-refusal       : the loader refuses a description of at most 65,535 bytes with 2 to 5
 --   Sound d o          == o is what the description d comes to: the procedure's count and a record of its length, or a refusal from 2 to 5
 --   sound              : each glyph of a sheet that is not too long is sound
---   described          : the description of glyph k is what the sheet opener gives
+--   described, opened  : the description of glyph k is what the sheet opener gives, and each glyph below the count has one
 use mathlib.Core.Path.{_≡_, refl, sym, ap, _∙_, subst}
 use mathlib.Core.Bool.{Bool, true, false, not}
 use mathlib.Core.List.{List, [], _∷_}
@@ -12,15 +12,16 @@ use Prim.Native.Nat.{ℕ, suc, _+_, _≤_, _<_}
 use native.Mathlib.Omega.{arith}
 use lib.Dec.{eqb, leb}
 use lib.ListN.{length, take, drop, length-take, length-drop}
-use Rattle.answers.specs.Outcome.{Outcome, given, refused, refuseIf}
+use Rattle.answers.specs.Outcome.{Outcome, given, refused, refuseIf, andThen}
 use Rattle.answers.proofs.OutcomeLaws.{not-given, refused-same, both-given, given-same}
 use Rattle.geometry.specs.EmBox.{inEmBox}
 use Rattle.lines.specs.Line.{Line, blank, point, fault}
 use Rattle.description.specs.Description.{byLine, linesRead, loadOf}
 use Rattle.description.proofs.Loading.{load-judged}
-use Rattle.directory.specs.Directory.{Place, count, pair}
+use Rattle.directory.specs.Directory.{Place, count, pair, countOf}
+use Rattle.directory.proofs.Rows.{count-known}
 use Rattle.sheet.specs.Sheet.{glyphOf, pickList, partOf, partAt}
-use Rattle.sheet.proofs.Parts.{given-pair}
+use Rattle.sheet.proofs.Parts.{given-pair, glyph-given}
 use Rattle.record_writer.specs.Layout.{recordLength}
 use Rattle.letter.specs.Letter.{room, Letter, letterOf}
 use Rattle.letter.proofs.Whole.{room-long, letter-loaded, letter-unloaded, letter-named, letter-long}
@@ -83,3 +84,8 @@ described s k d h =
     let one = both-given (glyphOf s k) _ d h in
     let g = given-pair s k (one .0) (one .1 .0) in
     (g .below, sym (given-same (one .1 .1)) ∙ ap (λ (p : Place). partOf s (p .start) (p .len)) (g .place))
+
+pub opened : (s : List ℕ) (k n : ℕ) → countOf s ≡ given n → k < count s → glyphBytes s k ≡ given (partAt s k)
+opened s k n e h =
+    ap (λ (o : Outcome Place). andThen o (λ p. given (partOf s (p .start) (p .len))))
+    (glyph-given s k n e (subst (λ (m : ℕ). k < m) (sym (count-known s n e .all)) h))

@@ -18,7 +18,8 @@ use Rattle.answers.specs.Outcome.{Outcome, given, refused}
 use Rattle.answers.proofs.OutcomeLaws.{both-given, given-same, not-given}
 use Rattle.description.specs.Description.{loadOf, named}
 use Rattle.description.proofs.AcceptedTexts.{accepted-room}
-use Rattle.directory.specs.Directory.{count}
+use Rattle.directory.specs.Directory.{count, countOf}
+use Rattle.directory.proofs.Rows.{count-known}
 use Rattle.sheet.specs.Sheet.{partAt}
 use Rattle.record_writer.specs.Layout.{recordLength}
 use Rattle.disks.specs.Procedure.{diskOf}
@@ -33,13 +34,14 @@ use Rattle.claims.specs.Values.{glyphBytes}
 use Rattle.claims.specs.Demand3.{AcceptedDescription, Answers, worked}
 use Rattle.claims.proofs.Demand3.{answers, worked-is}
 use Rattle.run_claims.specs.SheetRun.{testsOf, numberAt, when, workedTo, spentTo, recordIn, RunIsFair, LargerKeeps, SheetRun}
-use Rattle.run_claims.proofs.Glyphs.{glyph, sound, described}
+use Rattle.run_claims.proofs.Glyphs.{glyph, sound, described, opened}
 use Rattle.run_claims.proofs.Passes.{verdict, enough, noted, bytesIf, added, up, ran-up, up-numbers, number-is, step-records, records-front, along, Along, kept}
 
 -- ---- a run that is not refused
 
 pub record RunKnown (s : List ℕ) (t : ℕ) (b ns : List ℕ) (w l : ℕ) : Type 0 where
-  pub short : length s ≤ 65535
+  pub size : ℕ
+  pub counts : countOf s ≡ given size
   pub comes-to : runOf s t b ns ≡ given (up s t (count s))
   pub worked-are : w ≡ up s t (count s) .worked
   pub left-is : l ≡ up s t (count s) .left
@@ -48,10 +50,11 @@ pub run-known : (s : List ℕ) (t : ℕ) (b ns : List ℕ) (w l : ℕ) → answe
 run-known s t b ns w l h =
     let one = both-given (runOf s t b ns) _ (w, l) h in
     let is = run-is s t b ns (one .0) (one .1 .0) in
-    let same : one .0 ≡ up s t (count s) = is .1 ∙ ran-up s t (count s) in
+    let same : one .0 ≡ up s t (count s) = is .1 .1 ∙ ran-up s t (count s) in
     let pair : _≡_ {A = ℕ × ℕ} (w, l) (one .0 .worked, one .0 .left) = sym (given-same (one .1 .1)) in
     record {
-      short = is .0;
+      size = is .0;
+      counts = is .1 .0;
       comes-to = one .1 .0 ∙ ap given same;
       worked-are = ap (λ (p : ℕ × ℕ). p .0) pair ∙ ap (λ (q : State). q .worked) same;
       left-is = ap (λ (p : ℕ × ℕ). p .1) pair ∙ ap (λ (q : State). q .left) same;
@@ -87,6 +90,9 @@ module _ (s : List ℕ) (t : ℕ) (b ns : List ℕ) (w l : ℕ) (z : RunKnown s 
   abbrev n : ℕ
   n = count s
 
+  short : length s ≤ 65535
+  short = count-known s (z .size) (z .counts) .short
+
   abbrev end : State
   end = up s t n
 
@@ -109,7 +115,7 @@ module _ (s : List ℕ) (t : ℕ) (b ns : List ℕ) (w l : ℕ) (z : RunKnown s 
       ∙ number-is s t n k h
 
   along-at : (k : ℕ) → k ≤ n → Along s t numbers k (up s t k)
-  along-at k h = along s (z .short) t numbers n number-at k h
+  along-at k h = along s short t numbers n number-at k h
 
   -- a glyph with a letter
   module _ (k : ℕ) (below : k < n) (g : Letter) (is : glyph s k ≡ given g) where
@@ -117,7 +123,7 @@ module _ (s : List ℕ) (t : ℕ) (b ns : List ℕ) (w l : ℕ) (z : RunKnown s 
     so-far = along-at k (omega arith)
 
     tests-are : g .tests ≡ testsOf (partAt s k)
-    tests-are = sound s (z .short) k .tests-are g is
+    tests-are = sound s short k .tests-are g is
 
     number-of : numberAt numbers k ≡ verdict (enough g (up s t k))
     number-of = number-at k below ∙ ap (λ (o : Outcome Letter). noted o (up s t k)) is
@@ -176,7 +182,7 @@ module _ (s : List ℕ) (t : ℕ) (b ns : List ℕ) (w l : ℕ) (z : RunKnown s 
         let place : length (q .records) ≡ recordLength * workedTo numbers k = so-far .long ∙ ap (λ (m : ℕ). recordLength * m) (so-far .worked-is) in
         ap (λ (m : List ℕ). take recordLength (drop (recordLength * workedTo numbers k) m)) whole
         ∙ ap (take recordLength) (drop-at (q .records) (g .bytes ++ (later .0 ++ tail)) (recordLength * workedTo numbers k) place)
-        ∙ take-at (g .bytes) (later .0 ++ tail) recordLength (sound s (z .short) k .long g is)
+        ∙ take-at (g .bytes) (later .0 ++ tail) recordLength (sound s short k .long g is)
 
   -- a worked glyph has a letter
   worked-letter : (k : ℕ) → k < n → numberAt numbers k ≡ 0 → (g : Letter) × (glyph s k ≡ given g)
@@ -189,7 +195,7 @@ module _ (s : List ℕ) (t : ℕ) (b ns : List ℕ) (w l : ℕ) (z : RunKnown s 
       by-glyph (given g) is = (g, is)
       by-glyph (refused m) is =
           let number : numberAt numbers k ≡ m = number-at k below ∙ ap (λ (o : Outcome Letter). noted o (up s t k)) is in
-          absurd (no m (sound s (z .short) k .own m is .0) (sym number ∙ e))
+          absurd (no m (sound s short k .own m is .0) (sym number ∙ e))
 
   -- a description that the sheet opener gives for glyph k
   module _ (k : ℕ) (d : List ℕ) (given-as : glyphBytes s k ≡ given d) where
@@ -205,7 +211,7 @@ module _ (s : List ℕ) (t : ℕ) (b ns : List ℕ) (w l : ℕ) (z : RunKnown s 
     keeps-refusal : (m : ℕ) (list : List ℤ) → 8192 ≤ length list → loadOf d list ≡ refused m → (numberAt numbers k ≡ m) × (2 ≤ m) × (m ≤ 5)
     keeps-refusal m list long refuses =
         let is : glyph s k ≡ refused m = ap letterOf (sym part-is) ∙ letter-unloaded d list long m refuses in
-        let own = sound s (z .short) k .own m is in
+        let own = sound s short k .own m is in
         (number-at k below-count ∙ ap (λ (o : Outcome Letter). noted o (up s t k)) is, own .0, own .1)
 
     worked-out : numberAt numbers k ≡ 0 → (list : List ℤ) → 8192 ≤ length list → (buffer : List ℕ) → recordLength ≤ length buffer
@@ -223,6 +229,8 @@ module _ (s : List ℕ) (t : ℕ) (b ns : List ℕ) (w l : ℕ) (z : RunKnown s 
 
   is-fair : RunIsFair s t b ns w l after numbers
   is-fair = record {
+    described = λ k d.
+        (described s k d, λ h. subst (λ (c : List ℕ). glyphBytes s k ≡ given c) (sym (h .1)) (opened s k (z .size) (z .counts) (h .0)));
     faulty = λ k m d list e long refuses. keeps-refusal k d e m list long refuses;
     worked-if = λ k d e a.
         let below = below-count k d e in
@@ -282,7 +290,6 @@ module _ (s : List ℕ) (t u : ℕ) (larger : t ≤ u) (b ns c ms : List ℕ) (w
 
 pub sheet-run : SheetRun
 sheet-run = record {
-  described = described;
   fair = λ s t b ns w l h. is-fair s t b ns w l (run-known s t b ns w l h);
   larger = λ s t u le b ns c ms w l x m h k. keeps s t u le b ns c ms w l x m (run-known s t b ns w l h) (run-known s u c ms x m k);
 }

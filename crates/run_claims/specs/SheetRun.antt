@@ -11,8 +11,8 @@
 --   LargerKeeps       == what holds of two runs of a sheet, the second with the larger allowance
 --   SheetRun          == all that item 12 says
 --
--- `glyphBytes s k`: the calls `glyph` and `part`, one after the other (claims/specs/Values.antt); that the description of glyph k is this, and what
--- `partAt s k` is, is said by `SheetRun.described`. An accepted description and what it is `worked` to: claims/specs/Demand3.antt.
+-- `glyphBytes s k`: the calls `glyph` and `part`, one after the other (claims/specs/Values.antt). An accepted description and what it is `worked` to:
+-- claims/specs/Demand3.antt.
 use mathlib.Core.Path.{_≡_}
 use mathlib.Core.Logic.{_↔_}
 use mathlib.Core.Bool.{Bool, true, false}
@@ -55,6 +55,8 @@ recordIn b ns k = take recordLength (drop (recordLength * workedTo ns k) b)
 -- of a run of the sheet s with the allowance t, lent the buffer b and the list ns, that answers w worked and l left, and leaves the buffer `after` and the
 -- list `numbers`
 pub record RunIsFair (s : List ℕ) (t : ℕ) (b ns : List ℕ) (w l : ℕ) (after numbers : List ℕ) : Type 0 where
+  -- each glyph of the directory has a description, its part of the sheet, and the sheet opener gives it
+  pub described : (k : ℕ) (d : List ℕ) → (glyphBytes s k ≡ given d) ↔ ((k < count s) × (d ≡ partAt s k))
   -- "A faulty description keeps its own refusal anywhere": 2 to 5
   pub faulty :
       (k n : ℕ) (d : List ℕ) (list : List ℤ) → glyphBytes s k ≡ given d → 8192 ≤ length list → loadOf d list ≡ refused n
@@ -88,8 +90,6 @@ pub record LargerKeeps (s after numbers larger more : List ℕ) : Type 0 where
   pub same-record : (k : ℕ) → k < count s → numberAt numbers k ≡ 0 → recordIn larger more k ≡ recordIn after numbers k
 
 pub record SheetRun : Type 0 where
-  -- the description of glyph k is what the sheet opener gives
-  pub described : (s : List ℕ) (k : ℕ) (d : List ℕ) → glyphBytes s k ≡ given d → (k < count s) × (d ≡ partAt s k)
   pub fair :
       (s : List ℕ) (t : ℕ) (b ns : List ℕ) (w l : ℕ) → answerOf (runOf s t b ns) ≡ given (w, l)
       → RunIsFair s t b ns w l (bufferAfter s t b ns) (numbersAfter s t b ns)

@@ -1,5 +1,7 @@
 -- What `glyphOf` says of the parts.
 --
+--   by-count                   : a glyph is the count, then the check of k
+--   glyph-given                : where k is below the count, it is pair k
 --   Given s k p                == the sheet keeps every rule, k is below the count, and p is pair k
 --   given-pair                 : where glyph k is given as p, this is so
 --   given-within               : a part that is given lies within the sheet, behind the directory
@@ -10,16 +12,27 @@ use mathlib.Core.List.{List}
 use Prim.Native.Nat.{ℕ, _+_, _≤_, _<_}
 use native.Mathlib.Nat.{zero-add}
 use native.Mathlib.Omega.{arith}
-use borrow.Author.Tests.{le-leb, leb-false}
+use borrow.Author.Tests.{le-leb, lt-leb, leb-false}
 use lib.Dec.{leb}
 use lib.ListN.{length, take, drop, length-drop}
 use lib.Seq.{length-take-le}
-use Rattle.answers.specs.Outcome.{given, refuseIf}
+use Rattle.answers.specs.Outcome.{Outcome, given, refuseIf, andThen}
 use Rattle.answers.proofs.OutcomeLaws.{not-refused, both-given, given-same}
 use Rattle.directory.specs.Directory.{Place, count, directoryEnd, pair, pairs, follow, countOf}
 use Rattle.directory.proofs.Rows.{count-known}
 use Rattle.directory.proofs.Follow.{follow-pair}
 use Rattle.sheet.specs.Sheet.{glyphOf, pickList, partOf}
+
+module _ (s : List ℕ) (k : ℕ) where
+  abbrev below-count : ℕ → Outcome Place
+  below-count n = refuseIf (leb n k) 10 (given (pair s k))
+
+  pub by-count : {o : Outcome ℕ} → countOf s ≡ o → glyphOf s k ≡ andThen o below-count
+  unfolding glyphOf
+  by-count e = ap (λ (o : Outcome ℕ). andThen o below-count) e
+
+  pub glyph-given : (n : ℕ) → countOf s ≡ given n → k < n → glyphOf s k ≡ given (pair s k)
+  glyph-given n e h = by-count e ∙ rw (lt-leb n k h)
 
 pub record Given (s : List ℕ) (k : ℕ) (p : Place) : Type 0 where
   pub short : length s ≤ 65535
@@ -31,7 +44,7 @@ pub record Given (s : List ℕ) (k : ℕ) (p : Place) : Type 0 where
 pub given-pair : (s : List ℕ) (k : ℕ) (p : Place) → glyphOf s k ≡ given p → Given s k p
 unfolding glyphOf
 given-pair s k p h =
-    let counts = both-given (countOf s) (λ n. refuseIf (leb n k) 10 (given (pair s k))) p h in
+    let counts = both-given (countOf s) (below-count s k) p h in
     let known = count-known s (counts .0) (counts .1 .0) in
     let place = not-refused (leb (counts .0) k) 10 (counts .1 .1) in
     record {

@@ -4,7 +4,7 @@
 --   run-no-room, run-no-place : 8 for the buffer, 8 for the list
 --   run-too-much      : 17 for the allowance
 --   run-given         : else the run
---   run-is            : a run that is not refused is this, of a sheet that is not too long
+--   run-is            : a run that is not refused is this, of a sheet that keeps the rules
 --   run-told          : the answer, the buffer and the list, by what the run comes to
 use mathlib.Core.Path.{_≡_, sym, ap}
 use mathlib.Core.List.{List}
@@ -16,7 +16,6 @@ use Rattle.answers.specs.Outcome.{Outcome, given, refused, refuseIf}
 use Rattle.answers.proofs.OutcomeLaws.{not-refused, both-given, given-same}
 use Rattle.record_writer.specs.Layout.{recordLength}
 use Rattle.directory.specs.Directory.{countOf}
-use Rattle.directory.proofs.Rows.{count-known}
 use Rattle.run_steps.specs.Steps.{State}
 use Rattle.sheet_run.specs.Running.{ran, runOf, answerOf, bufferBy, numbersBy, bufferAfter, numbersAfter}
 
@@ -44,7 +43,7 @@ module _ (s : List ℕ) (t : ℕ) (b ns : List ℕ) where
         unfolding runOf
         run-given h = rw (counts, le-ltb (length b) (recordLength * n) room, le-ltb (length ns) n places, lt-leb (2 ^ 60) t h)
 
-  pub run-is : (r : State) → runOf s t b ns ≡ given r → (length s ≤ 65535) × (r ≡ ran s t)
+  pub run-is : (r : State) → runOf s t b ns ≡ given r → (n : ℕ) × ((countOf s ≡ given n) × (r ≡ ran s t))
   unfolding runOf
   run-is r h =
       let counts = both-given (countOf s) _ r h in
@@ -52,7 +51,7 @@ module _ (s : List ℕ) (t : ℕ) (b ns : List ℕ) where
       let in-limit = refuseIf (leb (2 ^ 60) t) 17 (given (ran s t)) in
       let room = not-refused (ltb (length b) (recordLength * n)) 8 {rest = refuseIf (ltb (length ns) n) 8 in-limit} (counts .1 .1) in
       let places = not-refused (ltb (length ns) n) 8 {rest = in-limit} (room .1) in
-      (count-known s n (counts .1 .0) .short, sym (given-same (not-refused (leb (2 ^ 60) t) 17 (places .1) .1)))
+      (n, (counts .1 .0, sym (given-same (not-refused (leb (2 ^ 60) t) 17 (places .1) .1))))
 
   pub run-told : (o : Outcome State) → runOf s t b ns ≡ o
       → (answerOf o ≡ answerOf (runOf s t b ns)) × ((bufferBy o b ≡ bufferAfter s t b ns) × (numbersBy o ns ≡ numbersAfter s t b ns))

@@ -4,23 +4,13 @@ use mathlib.Core.List.{List}
 use Prim.Native.Nat.{ℕ}
 use native.Mathlib.Omega.{arith}
 use borrow.Author.Needs.{needs}
-use borrow.Author.Tests.{le-leb, lt-leb}
-use lib.Dec.{leb}
-use Rattle.answers.specs.Outcome.{Outcome, given, refuseIf, andThen}
-use Rattle.directory.specs.Directory.{Place, pair, countOf, outcome}
+use borrow.Author.Tests.{le-leb}
+use Rattle.answers.specs.Outcome.{given}
+use Rattle.directory.specs.Directory.{countOf, outcome}
 use Rattle.directory.proofs.Rows.{Counted, count-known}
-use Rattle.sheet.specs.Sheet.{glyphOf}
+use Rattle.sheet.proofs.Parts.{by-count, glyph-given}
 use Rattle.sheet.proofs.glyph.Statement.{statement}
 use Rattle.sheet.proofs.glyph.Tie as tie
-
--- the check of k, and the glyph by the count
-module _ (s : List ℕ) (k : ℕ) where
-  abbrev asked-of : ℕ → Outcome Place
-  asked-of n = refuseIf (leb n k) 10 (given (pair s k))
-
-  by-count : {o : Outcome ℕ} → countOf s ≡ o → glyphOf s k ≡ andThen o asked-of
-  unfolding glyphOf
-  by-count e = ap (λ (o : Outcome ℕ). andThen o asked-of) e
 
 -- where the sheet keeps the rules
 module _ (c : tie.After-count) where
@@ -76,7 +66,7 @@ returns-2 c =
     let first = c .before in
     let n = first .before .before .before in
     ap₂ (λ (a b : ℕ). given (record { start = a; len = b })) (first .number-at .ensures .0) (c .number-at2 .ensures .0)
-    ∙ sym (by-count (bytes n) (asked n) (counts n) ∙ rw (lt-leb (size n) (asked n) (first .before .if1 .left)))
+    ∙ sym (glyph-given (bytes n) (asked n) (size n) (counts n) (first .before .if1 .left))
 
 returns-3 : tie.Need-returns-3
 returns-3 c =
