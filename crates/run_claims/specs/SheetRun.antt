@@ -4,6 +4,7 @@
 --
 --   testsOf d         == the procedure's count of tests for the points that the description d names
 --   numberAt ns k     == the number of glyph k in the list ns
+--   when b n          == n where the test b holds, else 0
 --   workedTo ns k     == how many of the glyphs before glyph k were worked: those with the number 0
 --   spentTo s ns k    == the tests of these
 --   recordIn b ns k   == the record of glyph k in the buffer b: behind those of the glyphs that were worked before it

@@ -1,6 +1,9 @@
 // The sheet listing program: reads a sheet from standard input and prints a line a glyph. Its argument is the allowance of tests, in
 // decimal digits; without one it is the greatest that a run takes.
 ghost use Prim.Native.Nat.{_≤_};
+
+mod report;
+
 use reading::Input;
 
 enum Allowance {
@@ -54,7 +57,7 @@ fn read_allowance() -> Allowance {
 fn list(tests: u64) {
     let mut sheet = io::large_buffer();
     match reading::read_all(&mut sheet) {
-        Input::Bytes(n) => sheet_report::print_sheet(&sheet[..n], tests),
+        Input::Bytes(n) => report::print_sheet(&sheet[..n], tests),
         Input::Unreadable => os::fail(b"standard input"),
     }
 }

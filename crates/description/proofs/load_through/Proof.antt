@@ -19,7 +19,7 @@ judged : (c : tie.After-load-into) → let a = c .before .before .before .args i
 judged c =
     let s = c .before .before .before in
     let a = s .args in
-    c .load-into .ensures .0 ∙ load-same (a .text .now) (a .found .now) (a .list .now) (s .pre .0) (s .pre .1)
+    c .load-into .ensures .0 ∙ load-same (a .text .now) _ (a .list .now) (search needs) (s .pre .1)
 
 kept : (c : tie.After-n) →
     let j = c .before .before .before in

@@ -1,11 +1,11 @@
--- `sheet_report::print_run` is safe: where the count is given, the sheet has its directory.
+-- `sheet_listing::report::print_run` is safe: where the count is given, the sheet has its directory.
 use mathlib.Core.Path.{sym, ap, _∙_}
 use native.Mathlib.Omega.{arith}
 use borrow.Author.Needs.{needs}
 use Rattle.directory.specs.Directory.{outcome}
 use Rattle.directory.proofs.Rows.{count-known}
-use Rattle.sheet_report.proofs.print_run.Statement.{statement}
-use Rattle.sheet_report.proofs.print_run.Tie as tie
+use Rattle.sheet_listing.proofs.report.print_run.Statement.{statement}
+use Rattle.sheet_listing.proofs.report.print_run.Tie as tie
 
 count-glyphs-requires : tie.Need-count-glyphs-requires
 count-glyphs-requires c κs = search needs

@@ -1,9 +1,9 @@
--- `sheet_report::print_glyphs` is safe and ends: the directory has the glyph. The measure is how many are left.
+-- `sheet_listing::report::print_glyphs` is safe and ends: the directory has the glyph. The measure is how many are left.
 use Prim.Native.Nat.{_-_}
 use native.Mathlib.Omega.{arith}
 use borrow.Author.Needs.{needs}
-use Rattle.sheet_report.proofs.print_glyphs.Statement.{statement}
-use Rattle.sheet_report.proofs.print_glyphs.Tie as tie
+use Rattle.sheet_listing.proofs.report.print_glyphs.Statement.{statement}
+use Rattle.sheet_listing.proofs.report.print_glyphs.Tie as tie
 
 abbrev Inv-loop : tie.InvT-loop
 Inv-loop sheet count numbers k₀ k = Unit {0}
