@@ -4,6 +4,7 @@ ghost use Prim.Native.Nat.{_≤_};
 
 mod report;
 
+use libc::STDERR_FILENO;
 use reading::Input;
 
 enum Allowance {
@@ -65,6 +66,11 @@ fn list(tests: u64) {
 fn main() {
     match read_allowance() {
         Allowance::Tests(t) => list(t),
-        Allowance::Unreadable => os::fail(b"allowance"),
+        Allowance::Unreadable => {
+            io::write_all(
+                STDERR_FILENO,
+                b"the allowance is no number in decimal digits\n",
+            );
+        }
     }
 }
