@@ -3,6 +3,7 @@
 //! `tests/README.md` has the layout.
 
 mod checksums;
+mod estimates;
 mod runs;
 
 use crate::chosen::{smallest_disk_through, Chosen};
@@ -23,6 +24,7 @@ use crate::traced::smallest_disk_of_traced;
 use crate::two_fixed;
 use checksums::{byte_checksum, list_checksum};
 
+pub use estimates::estimate;
 pub use runs::run;
 
 /// A case: the call that it is for, the bytes given and the lines printed.
@@ -57,6 +59,8 @@ pub enum Call {
     Sheet = b'S' as isize,
     /// A whole sheet run under one allowance of tests.
     Run = b'G' as isize,
+    /// What a sheet will take, before a run of it is booked.
+    Estimate = b'B' as isize,
     /// A part of a sheet, by its place.
     Part = b'P' as isize,
     /// The record reader, then cutting radius, preview and record writer.
