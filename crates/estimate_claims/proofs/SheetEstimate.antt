@@ -5,10 +5,10 @@
 use mathlib.Core.Path.{_≡_, refl, sym, ap, _∙_, subst}
 use mathlib.Core.Bool.{Bool, true, false}
 use mathlib.Core.List.{List, map}
-use Prim.Native.Nat.{ℕ, zero, suc, _+_, _-_, _*_, _^_, _≤_, _<_}
+use Prim.Native.Nat.{ℕ, zero, suc, _+_, _*_, _≤_, _<_}
 use native.Mathlib.Omega.{arith}
 use borrow.Author.Tests.{le-leb, leb-true, ltb-true, ltb-false, ne-eqb}
-use lib.Dec.{leb, ltb, eqb}
+use lib.Dec.{ltb, eqb}
 use lib.IntN.{ℤ}
 use lib.ListN.{length, drop, List·getD-append}
 use lib.Seq.{drop-at}
@@ -16,13 +16,13 @@ use Rattle.answers.specs.Outcome.{Outcome, given, refused}
 use Rattle.answers.specs.Lent.{frontPut}
 use Rattle.answers.proofs.OutcomeLaws.{both-given, given-same, not-given, refused-same}
 use Rattle.disks.proofs.EveryRun.{most-three}
-use Rattle.description.specs.Description.{loadOf, named, room}
+use Rattle.description.specs.Description.{loadOf, room}
 use Rattle.description.proofs.AcceptedTexts.{room-long, load-same, accepted-count}
 use Rattle.directory.specs.Directory.{count, countOf}
 use Rattle.directory.proofs.Rows.{Counted, count-known}
 use Rattle.sheet.specs.Sheet.{partAt}
 use Rattle.record_writer.specs.Layout.{recordLength}
-use Rattle.letter.specs.Letter.{Letter, letterOf}
+use Rattle.letter.specs.Letter.{Letter}
 use Rattle.letter.proofs.Whole.{letter-unloaded}
 use Rattle.run_steps.specs.Steps.{State, tried, step}
 use Rattle.sheet_run.specs.Running as running
@@ -184,19 +184,6 @@ module _ (s ps rs : List ℕ) (b t : ℕ) (z : Known s ps rs b t) where
   abbrev need : ℕ → ℕ
   need k = testsFor (loadAt s k)
 
-  within : (k : ℕ) → k < n → total need k + need k ≤ t
-  within k h = subst (λ (m : ℕ). total need k + need k ≤ m) (sym (z .tests-are)) (total-within need n k h)
-
-  going : (k : ℕ) → k ≤ n → (up s t k .going ≡ true) × (t ≤ up s t k .left + total need k)
-  unfolding up total
-  going zero h = (refl, omega arith)
-  going (suc k) h =
-      let before = going k (omega arith) in still-going t (total need k) (up s t k) (before .0) (before .1) (agree (partAt s k)) (within k (omega arith))
-
-  foretold : (k : ℕ) → k < n → noted (glyph s k) (up s t k) ≡ refusalOf (loadAt s k)
-  foretold k h =
-      let before = going k (omega arith) in noted-load t (total need k) (up s t k) (before .0) (before .1) (agree (partAt s k)) (within k h)
-
   never-sixteen : (k : ℕ) → refusalOf (loadAt s k) ≡ 16 → ⊥
   never-sixteen k = by-load (loadAt s k) refl
     where
@@ -207,40 +194,54 @@ module _ (s ps rs : List ℕ) (b t : ℕ) (z : Known s ps rs b t) where
       by-load (given m) e h = high 0 (omega arith) (sym (ap refusalOf e) ∙ h)
       by-load (refused m) e h = high m (own k m e .1) (sym (ap refusalOf e) ∙ h)
 
-  module _ (c ns : List ℕ) (q : State) (m : runOf s t c ns ≡ given q) where
-    ran : RunKnown s t c ns (q .worked) (q .left)
-    ran = run-known s t c ns (q .worked) (q .left) (ap running.answerOf m)
+  module _ (u : ℕ) (enough-tests : t ≤ u) where
+    within : (k : ℕ) → k < n → total need k + need k ≤ u
+    within k h = omega (arith, z .tests-are, total-within need n k h)
 
-    abbrev numbers : List ℕ
-    numbers = numbersAfter s t c ns
+    going : (k : ℕ) → k ≤ n → (up s u k .going ≡ true) × (u ≤ up s u k .left + total need k)
+    unfolding up total
+    going zero h = (refl, omega arith)
+    going (suc k) h =
+        let before = going k (omega arith) in still-going u (total need k) (up s u k) (before .0) (before .1) (agree (partAt s k)) (within k (omega arith))
 
-    number-is : (k : ℕ) → k < n → numberAt numbers k ≡ refusalOf (loadAt s k)
-    number-is k h = number-at s t c ns (q .worked) (q .left) ran k h ∙ foretold k h
+    foretold : (k : ℕ) → k < n → noted (glyph s k) (up s u k) ≡ refusalOf (loadAt s k)
+    foretold k h =
+        let before = going k (omega arith) in noted-load u (total need k) (up s u k) (before .0) (before .1) (agree (partAt s k)) (within k h)
 
-    end : Along s t numbers n (up s t n)
-    end = along-at s t c ns (q .worked) (q .left) ran n (omega arith)
+    module _ (c ns : List ℕ) (q : State) (m : runOf s u c ns ≡ given q) where
+      ran : RunKnown s u c ns (q .worked) (q .left)
+      ran = run-known s u c ns (q .worked) (q .left) (ap running.answerOf m)
 
-    records-are : b ≡ recordLength * q .worked
-    records-are =
-        is-true .bytes-are
-        ∙ total-same _ _ n (λ k h. ap (λ (j : ℕ). when (eqb j 0) recordLength) (refusal-at k h ∙ sym (number-is k h)))
-        ∙ sym (worked-total numbers n)
-        ∙ ap (λ (k : ℕ). recordLength * k) (sym (end .worked-is) ∙ sym (ran .worked-are))
+      abbrev numbers : List ℕ
+      numbers = numbersAfter s u c ns
 
-    keeps-to : RunKeepsTo s b t refusals c ns q
-    keeps-to = record {
-      none-stopped = λ k h e. never-sixteen k (sym (number-is k h) ∙ e);
-      foretold = λ k h. number-is k h ∙ sym (refusal-at k h);
-      written =
-          ap (λ (p : State). length (p .records)) (given-same (sym m ∙ ran .comes-to))
-          ∙ end .long
-          ∙ ap (λ (k : ℕ). recordLength * k) (sym (ran .worked-are))
-          ∙ sym records-are;
-      records-are = records-are;
-      bytes-stay =
-          subst (λ (k : ℕ). drop k (bufferAfter s t c ns) ≡ drop k c) (sym records-are)
-          (sheet-run .fair s t c ns (q .worked) (q .left) (ap running.answerOf m) .bytes-stay);
-    }
+      number-is : (k : ℕ) → k < n → numberAt numbers k ≡ refusalOf (loadAt s k)
+      number-is k h = number-at s u c ns (q .worked) (q .left) ran k h ∙ foretold k h
+
+      end : Along s u numbers n (up s u n)
+      end = along-at s u c ns (q .worked) (q .left) ran n (omega arith)
+
+      records-are : b ≡ recordLength * q .worked
+      records-are =
+          is-true .bytes-are
+          ∙ total-same _ _ n (λ k h. ap (λ (j : ℕ). when (eqb j 0) recordLength) (refusal-at k h ∙ sym (number-is k h)))
+          ∙ sym (worked-total numbers n)
+          ∙ ap (λ (k : ℕ). recordLength * k) (sym (end .worked-is) ∙ sym (ran .worked-are))
+
+      keeps-to : RunKeepsTo s b u refusals c ns q
+      keeps-to = record {
+        none-stopped = λ k h e. never-sixteen k (sym (number-is k h) ∙ e);
+        foretold = λ k h. number-is k h ∙ sym (refusal-at k h);
+        written =
+            ap (λ (p : State). length (p .records)) (given-same (sym m ∙ ran .comes-to))
+            ∙ end .long
+            ∙ ap (λ (k : ℕ). recordLength * k) (sym (ran .worked-are))
+            ∙ sym records-are;
+        records-are = records-are;
+        bytes-stay =
+            subst (λ (k : ℕ). drop k (bufferAfter s u c ns) ≡ drop k c) (sym records-are)
+            (sheet-run .fair s u c ns (q .worked) (q .left) (ap running.answerOf m) .bytes-stay);
+      }
 
   refused-for-room : (c ns : List ℕ) (k : ℕ) → runOf s t c ns ≡ refused k → k ≡ 8
   refused-for-room c ns k h = by-room (ltb (length c) (recordLength * z .size)) refl
@@ -258,7 +259,7 @@ module _ (s ps rs : List ℕ) (b t : ℕ) (z : Known s ps rs b t) where
 pub sheet-estimate : SheetEstimate
 sheet-estimate = record {
   true-estimate = λ s ps rs b t h. is-true s ps rs b t (known s ps rs b t h);
-  run-keeps = λ s ps rs b t h c ns q m. keeps-to s ps rs b t (known s ps rs b t h) c ns q m;
+  run-keeps = λ s ps rs b t h u le c ns q m. keeps-to s ps rs b t (known s ps rs b t h) u le c ns q m;
   only-room = λ s ps rs b t h c ns k r. refused-for-room s ps rs b t (known s ps rs b t h) c ns k r;
   no-rest = λ n. omega (arith, most-three n);
 }

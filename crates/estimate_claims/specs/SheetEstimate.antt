@@ -5,7 +5,7 @@
 --   total f k         == the sum of f over the glyphs before glyph k
 --   acceptable rs f k == f of glyph k where it is acceptable, its number in the list rs being 0; else 0
 --   EstimateIsTrue    == what holds of one estimate, of the lists that it leaves
---   RunKeepsTo        == what holds of a run of the sheet with the estimate's sum as its allowance
+--   RunKeepsTo        == what holds of a run of the sheet with the estimate's sum as its allowance, or more
 --   SheetEstimate     == all that item 13 says
 --
 -- `glyphBytes s k`: the calls `glyph` and `part`, one after the other (claims/specs/Values.antt). `mostTests n`: (n³ + 5n) / 6
@@ -57,26 +57,26 @@ pub record EstimateIsTrue (s ps rs : List ℕ) (b t : ℕ) (points refusals : Li
   pub points-stay : drop (count s) points ≡ drop (count s) ps
   pub refusals-stay : drop (count s) refusals ≡ drop (count s) rs
 
--- of a run of the sheet s with t tests allowed, lent the buffer c and the list ns, that comes to q; b and `refusals` are the estimate's
-pub record RunKeepsTo (s : List ℕ) (b t : ℕ) (refusals c ns : List ℕ) (q : State) : Type 0 where
+-- of a run of the sheet s with u tests allowed, lent the buffer c and the list ns, that comes to q; b and `refusals` are the estimate's
+pub record RunKeepsTo (s : List ℕ) (b u : ℕ) (refusals c ns : List ℕ) (q : State) : Type 0 where
   -- "refuses no glyph as 16"
-  pub none-stopped : (k : ℕ) → k < count s → numberAt (numbersAfter s t c ns) k ≡ 16 → ⊥
+  pub none-stopped : (k : ℕ) → k < count s → numberAt (numbersAfter s u c ns) k ≡ 16 → ⊥
   -- each glyph has the number that was foretold
-  pub foretold : (k : ℕ) → k < count s → numberAt (numbersAfter s t c ns) k ≡ numberAt refusals k
+  pub foretold : (k : ℕ) → k < count s → numberAt (numbersAfter s u c ns) k ≡ numberAt refusals k
   -- "writes exactly that many bytes": the records, of as many glyphs as are worked, and nothing behind them
   pub written : length (q .records) ≡ b
   pub records-are : b ≡ recordLength * q .worked
-  pub bytes-stay : drop b (bufferAfter s t c ns) ≡ drop b c
+  pub bytes-stay : drop b (bufferAfter s u c ns) ≡ drop b c
 
 pub record SheetEstimate : Type 0 where
   pub true-estimate :
       (s ps rs : List ℕ) (b t : ℕ) → answerOf (estimateOf s ps rs) ≡ given (b, t)
       → EstimateIsTrue s ps rs b t (pointsAfter s ps rs) (refusalsAfter s ps rs)
-  -- "A run of the sheet with that sum as T, if not itself refused, .."
+  -- "A run of the sheet with that sum as T, if not itself refused, ..": with that sum, or more
   pub run-keeps :
       (s ps rs : List ℕ) (b t : ℕ) → answerOf (estimateOf s ps rs) ≡ given (b, t)
-      → (c ns : List ℕ) (q : State) → runOf s t c ns ≡ given q → RunKeepsTo s b t (refusalsAfter s ps rs) c ns q
-  -- .. and it is refused for want of room alone
+      → (u : ℕ) → t ≤ u → (c ns : List ℕ) (q : State) → runOf s u c ns ≡ given q → RunKeepsTo s b u (refusalsAfter s ps rs) c ns q
+  -- and with that sum it is refused for want of room alone
   pub only-room :
       (s ps rs : List ℕ) (b t : ℕ) → answerOf (estimateOf s ps rs) ≡ given (b, t)
       → (c ns : List ℕ) (n : ℕ) → runOf s t c ns ≡ refused n → n ≡ 8
