@@ -32,13 +32,14 @@ use Rattle.sheet_estimate.specs.Estimating.{pointsOf, refusalOf, bytesFor, most
 use Rattle.sheet_estimate.specs.Estimating.{pointsBy, refusalsBy, pointsAfter, refusalsAfter, loads}
 use Rattle.sheet_estimate.proofs.Sums.{most, tests-few}
 use Rattle.sheet_estimate.proofs.Rows.{estimate-is}
+use Rattle.sheet_estimate.proofs.Told.{loadAt}
 use Rattle.claims.specs.Values.{glyphBytes}
 use Rattle.run_claims.specs.SheetRun.{numberAt, when, workedTo}
 use Rattle.run_claims.proofs.Glyphs.{glyph, sound, described, opened}
 use Rattle.run_claims.proofs.Passes.{verdict, enough, noted, up, Along}
 use Rattle.run_claims.proofs.SheetRun.{RunKnown, run-known, number-at, along-at, sheet-run}
 use Rattle.estimate_claims.specs.SheetEstimate.{total, acceptable, EstimateIsTrue, RunKeepsTo, SheetEstimate}
-use Rattle.estimate_claims.proofs.Totals.{total-same, total-within, total-most, loadAt, noted-long, noted-at, sum-total, Agree, both, neither, agree}
+use Rattle.estimate_claims.proofs.Totals.{total-same, total-within, total-most, noted-long, noted-at, sum-total, Agree, both, neither, agree}
 
 -- ---- a run with enough left
 

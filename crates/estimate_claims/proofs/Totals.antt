@@ -3,7 +3,6 @@
 --   total-same       : a sum is settled by its terms
 --   total-within     : the sum up to glyph k, and glyph k's own, are within that of all
 --   total-most       : a sum of terms within a limit
---   loadAt s k       == what the loader answers for glyph k of the sheet s
 --   noted-long, noted-at : the length of a list of the loader's answers, and its place k
 --   sum-total        : their sum as `total` has it
 --   Agree o l, agree : a description's letter o and the loader's answer l: both refused alike, or both given, the tests within the most
@@ -22,13 +21,18 @@ use Rattle.disks.proofs.Welzl.{tests-most}
 use Rattle.description.specs.Description.{loadOf, named, room}
 use Rattle.description.proofs.AcceptedTexts.{room-long, accepted-count}
 use Rattle.directory.specs.Directory.{pairs}
-use Rattle.sheet.specs.Sheet.{partAt, parts}
+use Rattle.sheet.specs.Sheet.{parts}
 use Rattle.letter.specs.Letter.{Letter, letterOf}
 use Rattle.letter.proofs.Whole.{letter-loaded, letter-unloaded}
 use Rattle.sheet_estimate.specs.Estimating.{loads, mostTests, sum}
+use Rattle.sheet_estimate.proofs.Told.{loadAt, each}
 use Rattle.estimate_claims.specs.SheetEstimate.{total}
 
 -- ---- sums
+
+-- no glyph is before the first
+none : (k : ℕ) → k < 0 → ⊥
+none k h = omega arith
 
 pub total-same : (f g : ℕ → ℕ) (n : ℕ) → ((k : ℕ) → k < n → f k ≡ g k) → total f n ≡ total g n
 unfolding total
@@ -38,9 +42,6 @@ total-same f g (suc n) h = ap₂ _+_ (total-same f g n (λ k l. h k (omega arith
 pub total-within : (f : ℕ → ℕ) (n k : ℕ) → k < n → total f k + f k ≤ total f n
 unfolding total
 total-within f zero k h = absurd (none k h)
-  where
-    none : (k : ℕ) → k < 0 → ⊥
-    none k h = omega arith
 total-within f (suc n) k h = by-place (ltb k n) refl (total-within f n k)
   where
     by-place : (b : Bool) → ltb k n ≡ b → (k < n → total f k + f k ≤ total f n) → total f k + f k ≤ total f n + f n
@@ -55,15 +56,8 @@ total-most f limit (suc n) h = subst (λ (m : ℕ). total f n + f n ≤ m) (sym 
 
 -- ---- the loader's answers
 
-abbrev pub loadAt : List ℕ → ℕ → Outcome ℕ
-loadAt s k = loadOf (partAt s k) room
-
 module _ (f : Outcome ℕ → ℕ) (s : List ℕ) where
-  -- f of the answers for the glyphs from i on, n of them
-  abbrev each : ℕ → ℕ → List ℕ
-  each i n = map f (map (λ (d : List ℕ). loadOf d room) (parts s i n))
-
-  each-long : (i n : ℕ) → length (each i n) ≡ n
+  each-long : (i n : ℕ) → length (each f s i n) ≡ n
   unfolding parts pairs
   each-long i zero = refl
   each-long i (suc n) = ap suc (each-long (suc i) n)
@@ -71,12 +65,9 @@ module _ (f : Outcome ℕ → ℕ) (s : List ℕ) where
   pub noted-long : (n : ℕ) → length (map f (loads s n)) ≡ n
   noted-long n = each-long 0 n
 
-  each-at : (i n k : ℕ) → k < n → getD (each i n) k 0 ≡ f (loadAt s (i + k))
+  each-at : (i n k : ℕ) → k < n → getD (each f s i n) k 0 ≡ f (loadAt s (i + k))
   unfolding parts pairs
   each-at i zero k h = absurd (none k h)
-    where
-      none : (k : ℕ) → k < 0 → ⊥
-      none k h = omega arith
   each-at i (suc n) zero h = ap (λ (j : ℕ). f (loadAt s j)) (sym (add-zero i))
   each-at i (suc n) (suc k) h =
       let e : suc i + k ≡ i + suc k = omega arith in each-at (suc i) n k (omega arith) ∙ ap (λ (j : ℕ). f (loadAt s j)) e
@@ -87,16 +78,16 @@ module _ (f : Outcome ℕ → ℕ) (s : List ℕ) where
   abbrev term : ℕ → ℕ
   term k = f (loadAt s k)
 
-  each-total : (i n : ℕ) → total term i + sum (each i n) ≡ total term (i + n)
+  each-total : (i n : ℕ) → total term i + sum (each f s i n) ≡ total term (i + n)
   unfolding parts pairs sum total
   each-total i zero = omega (arith, ap (total term) (add-zero i))
   each-total i (suc n) =
       let e : suc i + n ≡ i + suc n = omega arith in
-      sym (add-assoc (total term i) (term i) (sum (each (suc i) n))) ∙ each-total (suc i) n ∙ ap (total term) e
+      sym (add-assoc (total term i) (term i) (sum (each f s (suc i) n))) ∙ each-total (suc i) n ∙ ap (total term) e
 
   pub sum-total : (n : ℕ) → sum (map f (loads s n)) ≡ total term n
   unfolding total
-  sum-total n = sym (zero-add (sum (each 0 n))) ∙ each-total 0 n ∙ ap (total term) (zero-add n)
+  sum-total n = sym (zero-add (sum (each f s 0 n))) ∙ each-total 0 n ∙ ap (total term) (zero-add n)
 
 -- ---- a letter and its load
 

@@ -1,6 +1,7 @@
 -- An estimate, glyph by glyph, as a loop over the directory goes.
 --
 --   loadAt s i        == what the loader answers for glyph i of the sheet s
+--   each f s i n      == f of these answers for glyphs i, i + 1, .., n of them
 --   Noted f           == f of the first i of n glyphs stands at the front of a list, that of the others is still to come, and what is behind stays
 --   Summed f          == the same for the sum of f over the glyphs, each at most `each`
 --   Told              == both lists and both sums of an estimate behind i glyphs
@@ -32,8 +33,7 @@ load d = loadOf d room
 abbrev pub loadAt : List ℕ → ℕ → Outcome ℕ
 loadAt s i = load (partAt s i)
 
--- f of glyphs i, i + 1, .. of the sheet s, n of them
-abbrev each : (Outcome ℕ → ℕ) → List ℕ → ℕ → ℕ → List ℕ
+abbrev pub each : (Outcome ℕ → ℕ) → List ℕ → ℕ → ℕ → List ℕ
 each f s i n = map f (map load (parts s i n))
 
 module _ (f : Outcome ℕ → ℕ) (s : List ℕ) (n i : ℕ) where
