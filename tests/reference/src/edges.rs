@@ -7,6 +7,8 @@ mod belonging;
 mod chosen;
 mod descriptions;
 mod drawings;
+mod estimates;
+mod glyphs;
 mod hull;
 mod lists;
 mod radii;
@@ -20,10 +22,12 @@ mod two_fixed;
 pub use chosen::choices;
 pub use descriptions::descriptions;
 pub use drawings::drawings;
+pub use estimates::estimates;
+pub use glyphs::sheet_of;
 pub use hull::reductions;
 pub use lists::solvings;
 pub use records::{readings, writings};
-pub use runs::{runs, sheet_of};
+pub use runs::runs;
 pub use sheets::{parts, sheets};
 pub use stretch::stretches;
 pub use traced::tracings;
@@ -44,6 +48,7 @@ pub type Answer<Value> = Result<Value, u8>;
 mod tests {
     use super::*;
     use crate::chosen::smallest_disk_through;
+    use crate::estimate::{estimate_sheet, Estimate};
     use crate::geometry::Disk;
     use crate::hull::reduce_to_hull;
     use crate::letters::points;
@@ -168,6 +173,22 @@ mod tests {
             let (records, list) = gives.map(|ran| (ran.records, ran.numbers)).unwrap_or_default();
             assert!(buffer == [&records, &before[records.len()..]].concat(), "{says}: {shown:?}");
             assert!(numbers == [&list, &numbers_before[list.len()..]].concat(), "{says}: {shown:?} {numbers:?}");
+        }
+    }
+
+    #[test]
+    fn the_estimate_of_a_sheet_keeps_to_them() {
+        for Edge { says, given, gives } in estimates() {
+            let [before, refusals_before] = given.lent();
+            let [mut points, mut refusals] = given.lent();
+            let answer = estimate_sheet(&given.sheet, &mut points, &mut refusals).map_err(Refusal::number);
+            let shown = (given.points, given.refusals, &given.sheet[..given.sheet.len().min(60)]);
+            let expected =
+                gives.as_ref().map(|taken| Estimate { bytes: taken.bytes, tests: taken.tests }).map_err(|number| *number);
+            assert_eq!(answer, expected, "{says}: {shown:?}");
+            let (list, own) = gives.map(|taken| (taken.points, taken.refusals)).unwrap_or_default();
+            assert!(points == [&list, &before[list.len()..]].concat(), "{says}: {shown:?} {points:?}");
+            assert!(refusals == [&own, &refusals_before[own.len()..]].concat(), "{says}: {shown:?} {refusals:?}");
         }
     }
 

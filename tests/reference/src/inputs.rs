@@ -67,6 +67,21 @@ impl RunCase {
     }
 }
 
+/// The lengths of the lists of points and of refusals that are lent, and a sheet.
+#[derive(Clone, Debug)]
+pub struct EstimateCase {
+    pub points: usize,
+    pub refusals: usize,
+    pub sheet: Vec<u8>,
+}
+
+impl EstimateCase {
+    /// The lent lists, 12,321 everywhere.
+    pub fn lent(&self) -> [Vec<u16>; 2] {
+        [self.points, self.refusals].map(|places| vec![12_321; places])
+    }
+}
+
 /// Where a part lies, and a sheet.
 pub struct PartCase {
     pub start: usize,

@@ -21,6 +21,7 @@
 //! | [`drawing`] | points from a drawing program (document 02, item 2) |
 //! | [`sheet`] | the sheet opener |
 //! | [`run`] | a whole sheet worked under one allowance of tests (document 02, item 12), and drawn sheets for it |
+//! | [`estimate`] | what a sheet will take, with no disk worked out (document 02, item 13), and drawn sheets for it |
 //! | [`belonging`] | whether points belong to a disk (document 02, item 9), by its words |
 //! | [`record`] | its two forms, validity, writer and reader |
 //! | [`figures`] | the cutting radius and the preview |
@@ -41,6 +42,7 @@ pub mod description;
 pub mod drawing;
 pub mod edges;
 pub mod engine;
+pub mod estimate;
 pub mod figures;
 pub mod geometry;
 pub mod hull;

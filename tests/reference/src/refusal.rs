@@ -27,3 +27,8 @@ impl Refusal {
         self as u8
     }
 }
+
+/// What a glyph's place in a list of numbers gets: 0, or the number of its refusal.
+pub fn number_or_0<T>(glyph: &Result<T, Refusal>) -> u16 {
+    glyph.as_ref().err().map_or(0, |refusal| refusal.number().into())
+}

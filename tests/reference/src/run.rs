@@ -9,12 +9,12 @@ use crate::engine::Answer;
 use crate::limits::MOST_ALLOWANCE;
 use crate::listing;
 use crate::record::{self, LONG};
-use crate::refusal::Refusal;
+use crate::refusal::{number_or_0, Refusal};
 use crate::sheet;
 
 mod drawn;
 
-pub use drawn::{draw, MOST_BUFFER, MOST_NUMBERS};
+pub use drawn::draw;
 
 /// How many glyphs were worked, and what is left of the allowance.
 #[derive(Clone, Copy, PartialEq, Eq, Debug)]
@@ -29,16 +29,16 @@ pub type Outcome = Result<Answer, Refusal>;
 /// Puts the records of the worked glyphs one behind another into the buffer, and a number for each glyph into the list: refusals 1, 6, 8, 17,
 /// and then both are unchanged.
 pub fn run_sheet(sheet: &[u8], allowance: u64, buffer: &mut [u8], numbers: &mut [u16]) -> Result<SheetRun, Refusal> {
-    let parts = sheet::parts(sheet)?;
-    if buffer.len() < LONG.length() * parts.len() || numbers.len() < parts.len() {
+    let texts = sheet::texts(sheet)?;
+    if buffer.len() < LONG.length() * texts.len() || numbers.len() < texts.len() {
         return Err(Refusal::NoRoom);
     }
     if allowance > MOST_ALLOWANCE {
         return Err(Refusal::TooMuch);
     }
-    let outcomes = allowed(solve_each(parts.into_iter().map(|part| &sheet[part])), allowance);
+    let outcomes = allowed(solve_each(texts), allowance);
     for (place, outcome) in numbers.iter_mut().zip(&outcomes) {
-        *place = outcome.as_ref().map_or_else(|refusal| refusal.number().into(), |_| 0);
+        *place = number_or_0(outcome);
     }
     let worked: Vec<&Answer> = outcomes.iter().flatten().collect();
     for (place, answer) in buffer.chunks_exact_mut(LONG.length()).zip(&worked) {
@@ -143,7 +143,7 @@ pub(crate) mod tests {
     impl Ran {
         pub fn new(case: RunCase) -> Option<Ran> {
             let (answer, buffer, numbers) = after(&case, run_sheet);
-            let texts: Vec<Vec<u8>> = sheet::parts(&case.sheet).ok()?.into_iter().map(|part| case.sheet[part].to_vec()).collect();
+            let texts: Vec<Vec<u8>> = sheet::texts(&case.sheet).ok()?.into_iter().map(<[u8]>::to_vec).collect();
             let alone = solve_each(texts.iter().map(Vec::as_slice));
             answer.ok().map(|run| Ran { case, texts, alone, run, buffer, numbers })
         }
@@ -207,8 +207,8 @@ pub(crate) mod tests {
             let is_acceptable = |k: &usize| ran.alone[*k].is_ok();
             let (kept, faulty): (Vec<usize>, Vec<usize>) = (0..ran.texts.len()).partition(is_acceptable);
             assert!(faulty.iter().all(|&k| ran.alone[k].as_ref().is_err_and(|own| ran.numbers[k] == own.number().into())));
-            let (pairs, body) = sheet::laid_out(&kept.iter().map(|&k| (vec![], ran.texts[k].clone())).collect::<Vec<_>>());
-            let without = Ran::new(RunCase { sheet: sheet::with_directory(&pairs, &body), ..ran.case.clone() }).unwrap();
+            let sheet = sheet::packed(kept.iter().map(|&k| ran.texts[k].clone()));
+            let without = Ran::new(RunCase { sheet, ..ran.case.clone() }).unwrap();
             assert_eq!((without.run, without.buffer), (ran.run, ran.buffer));
             assert!(kept.iter().zip(&without.numbers).all(|(&k, number)| ran.numbers[k] == *number));
         }

@@ -1,8 +1,12 @@
-//! The sheet opener (document 01, "Description, sheet, record").
+//! The sheet opener (document 01, "Description, sheet, record"); drawn sheets to be run or estimated are in `sheet/drawn.rs`.
 
 use crate::limits::MOST_BYTES;
 use crate::refusal::Refusal;
 use std::ops::Range;
+
+mod drawn;
+
+pub use drawn::{draw_bytes, draw_glyphs, draw_rooms, MOST_BUFFER, MOST_PLACES};
 
 /// Where part k lies in the sheet: refusals 1, 6, 10.
 pub fn glyph(sheet: &[u8], k: usize) -> Result<Range<usize>, Refusal> {
@@ -19,6 +23,11 @@ pub fn parts(sheet: &[u8]) -> Result<Vec<Range<usize>>, Refusal> {
         return Err(Refusal::BadSheet);
     }
     Ok(parts)
+}
+
+/// The description of every glyph: refusals 1, 6.
+pub fn texts(sheet: &[u8]) -> Result<Vec<&[u8]>, Refusal> {
+    Ok(parts(sheet)?.into_iter().map(|part| &sheet[part]).collect())
 }
 
 /// The bytes of the sheet at a place; none where they do not all lie in it.
@@ -69,6 +78,13 @@ pub fn laid_out(gaps_and_parts: &[(Vec<u8>, Vec<u8>)]) -> (Vec<(u16, u16)>, Vec<
     (pairs, body)
 }
 
+/// A sheet of these parts, with no gaps.
+pub fn packed(parts: impl IntoIterator<Item = Vec<u8>>) -> Vec<u8> {
+    let behind_gaps: Vec<_> = parts.into_iter().map(|part| (vec![], part)).collect();
+    let (pairs, body) = laid_out(&behind_gaps);
+    with_directory(&pairs, &body)
+}
+
 /// A sheet's bytes: the directory as given, whatever it says, then the body.
 pub fn with_directory(pairs: &[(u16, u16)], body: &[u8]) -> Vec<u8> {
     let count = u16::try_from(pairs.len()).expect("a count has 16 bits");
@@ -82,8 +98,16 @@ pub fn with_directory(pairs: &[(u16, u16)], body: &[u8]) -> Vec<u8> {
 }
 
 #[cfg(test)]
-mod tests {
+pub(crate) mod tests {
     use super::*;
+
+    /// The bytes between the directory and the first part, between each two parts, and behind the last, in a sheet that is not refused.
+    pub fn gaps(sheet: &[u8]) -> Vec<usize> {
+        let parts = parts(sheet).unwrap();
+        let starts = parts.iter().map(|part| part.start).chain([sheet.len()]);
+        let ends = [2 + 4 * parts.len()].into_iter().chain(parts.iter().map(|part| part.end));
+        starts.zip(ends).map(|(start, end)| start - end).collect()
+    }
 
     fn opened(pairs: &[(u16, u16)], body: &[u8], k: usize) -> Result<Vec<u8>, u8> {
         let sheet = with_directory(pairs, body);
@@ -109,7 +133,17 @@ mod tests {
         let (pairs, body) =
             laid_out(&[("..", "ab"), ("", ""), ("", "c"), (".", "")].map(|(gap, part)| (bytes(gap), bytes(part))));
         assert_eq!((&pairs[..], &body[..]), (&[(20, 2), (22, 0), (22, 1), (24, 0)][..], &b"..abc."[..]));
-        assert_eq!(parts(&with_directory(&pairs, &body)), Ok(vec![20..22, 22..22, 22..23, 24..24]));
+        let sheet = with_directory(&pairs, &body);
+        assert_eq!(parts(&sheet), Ok(vec![20..22, 22..22, 22..23, 24..24]));
+        assert_eq!(texts(&sheet), Ok(vec![&b"ab"[..], b"", b"c", b""]));
+        assert_eq!(gaps(&sheet), [2, 0, 0, 1, 0]);
+    }
+
+    #[test]
+    fn packed_parts_have_no_gaps() {
+        let parts = [&b"ab"[..], b"", b"c"];
+        let sheet = packed(parts.map(<[u8]>::to_vec));
+        assert_eq!((texts(&sheet), gaps(&sheet)), (Ok(parts.to_vec()), vec![0; 4]));
     }
 
     #[test]

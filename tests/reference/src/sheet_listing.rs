@@ -1,5 +1,6 @@
-//! What the listing program for sheets prints: a line for each glyph, and one for the whole run.
+//! What the listing program for sheets prints: a line for each glyph, and one for the whole run, or for what it will take.
 
+use crate::estimate::estimate_sheet;
 use crate::limits::MOST_BYTES;
 use crate::listing;
 use crate::record::LONG;
@@ -21,12 +22,31 @@ pub fn sheet_listing(sheet: &[u8], allowance: u64) -> String {
 
 /// A line for each glyph of a sheet that is not refused: the lines of its own listing in one where it was worked, else its number.
 fn glyph_lines(sheet: &[u8], numbers: &[u16]) -> String {
-    let parts = sheet::parts(sheet).expect("the sheet is not refused");
-    let line = |(k, part)| match numbers[k] {
-        0 => format!("glyph {k} {}\n", listing::listing(&sheet[part]).trim_end().replace('\n', " ")),
-        number => format!("glyph {k} refused {number}\n"),
-    };
-    parts.into_iter().enumerate().map(line).collect()
+    let texts = sheet::texts(sheet).expect("the sheet is not refused");
+    let own = |text: &[u8]| listing::listing(text).trim_end().replace('\n', " ");
+    texts.into_iter().enumerate().map(|(k, text)| glyph_line(k, numbers[k], || own(text))).collect()
+}
+
+/// The words where the glyph's number is 0, else the number.
+fn glyph_line(k: usize, number: u16, words: impl FnOnce() -> String) -> String {
+    match number {
+        0 => format!("glyph {k} {}\n", words()),
+        _ => format!("glyph {k} refused {number}\n"),
+    }
+}
+
+/// What the sheet will take, to the byte. Both lists have room for any sheet.
+pub fn estimate_listing(sheet: &[u8]) -> String {
+    let mut points = vec![0; MOST_GLYPHS];
+    let mut refusals = vec![0; MOST_GLYPHS];
+    match estimate_sheet(sheet, &mut points, &mut refusals) {
+        Ok(estimate) => {
+            let count = sheet::parts(sheet).expect("the sheet is not refused").len();
+            let lines = (0..count).map(|k| glyph_line(k, refusals[k], || format!("points {}", points[k])));
+            lines.collect::<String>() + &format!("bytes {} tests {}\n", estimate.bytes, estimate.tests)
+        }
+        Err(refusal) => listing::refused(refusal),
+    }
 }
 
 #[cfg(test)]
@@ -46,6 +66,16 @@ mod tests {
     }
 
     #[test]
+    fn a_line_for_each_glyph_and_one_for_what_all_take() {
+        let printed =
+            "glyph 0 points 3\nglyph 1 refused 2\nglyph 2 points 2\nglyph 3 refused 5\nglyph 4 points 1\nbytes 159 tests 11\n";
+        assert_eq!(estimate_listing(&sheet_of("F2.C_A")), printed);
+        assert_eq!(estimate_listing(&[0, 0]), "bytes 0 tests 0\n");
+        assert_eq!(estimate_listing(&[0; 65_536]), "refused 1\n");
+        assert_eq!(estimate_listing(&[0]), "refused 6\n");
+    }
+
+    #[test]
     fn a_refused_run_is_one_line() {
         assert_eq!(sheet_listing(&[0; 65_536], 1 << 60), "refused 1\n");
         assert_eq!(sheet_listing(&[0], 1 << 60), "refused 6\n");
@@ -58,5 +88,6 @@ mod tests {
         let printed = sheet_listing(&sheet_of(&"_".repeat(16_383)), 0);
         assert!(printed.ends_with("glyph 16382 refused 5\nworked 0 left 0\n"));
         assert_eq!(printed.lines().count(), 16_384);
+        assert!(estimate_listing(&sheet_of(&"_".repeat(16_383))).ends_with("glyph 16382 refused 5\nbytes 0 tests 0\n"));
     }
 }

@@ -1,5 +1,6 @@
 //! The cases that the repository keeps, and further ones by their seed.
 
+mod estimates;
 mod hull_and_stretch;
 mod runs;
 
@@ -19,9 +20,11 @@ use crate::stretch;
 use crate::traced::{self, TracedPoint};
 use crate::two_fixed;
 use crate::vectors::{
-    append, chosen, engine, fixed, from_description, hull, loader, open_sheet, part, reader, run, stretch, traced, writer, Vector,
+    append, chosen, engine, estimate, fixed, from_description, hull, loader, open_sheet, part, reader, run, stretch, traced,
+    writer, Vector,
 };
 use crate::worst;
+use estimates::{edges_to_estimate, stored_to_estimate, to_estimate};
 use hull_and_stretch::{for_hull, for_stretch, stored_for_hull, stored_for_stretch};
 use runs::{edges_to_run, stored_to_run, to_run};
 
@@ -44,6 +47,7 @@ pub fn stored() -> Vec<Vector> {
     vectors.extend(edges::stretches().iter().map(|edge| stretch(&edge.given)));
     vectors.extend(stored_for_stretch().iter().chain(&stretch::long()).map(|list| stretch(list)));
     vectors.extend(edges_to_run().chain(stored_to_run()).map(|case| run(&case)));
+    vectors.extend(edges_to_estimate().chain(stored_to_estimate()).map(|case| estimate(&case)));
     vectors
 }
 
@@ -64,6 +68,7 @@ pub fn drawn(seed: u64, count: usize) -> Vec<Vector> {
     vectors.extend(records(&mut random, count));
     vectors.extend(for_stretch(&mut random, count).iter().map(|list| stretch(list)));
     vectors.extend(to_run(&mut random, count).iter().map(run));
+    vectors.extend(to_estimate(&mut random, count).iter().map(estimate));
     vectors
 }
 

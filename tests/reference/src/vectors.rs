@@ -2,6 +2,8 @@
 //!
 //! `tests/README.md` has the layout.
 
+mod checksums;
+mod estimates;
 mod runs;
 
 use crate::chosen::{smallest_disk_through, Chosen};
@@ -20,7 +22,9 @@ use crate::sheet;
 use crate::stretch::{widest_stretch, Stretch};
 use crate::traced::smallest_disk_of_traced;
 use crate::two_fixed;
+use checksums::{byte_checksum, list_checksum};
 
+pub use estimates::estimate;
 pub use runs::run;
 
 /// A case: the call that it is for, the bytes given and the lines printed.
@@ -55,6 +59,8 @@ pub enum Call {
     Sheet = b'S' as isize,
     /// A whole sheet run under one allowance of tests.
     Run = b'G' as isize,
+    /// What a sheet will take, before a run of it is booked.
+    Estimate = b'B' as isize,
     /// A part of a sheet, by its place.
     Part = b'P' as isize,
     /// The record reader, then cutting radius, preview and record writer.
@@ -80,23 +86,9 @@ pub fn output(vectors: &[Vector]) -> String {
     vectors.iter().map(|vector| vector.printed.as_str()).collect()
 }
 
-/// One number for a row of numbers below 65,536, that depends on their order: each step takes the sum times 65,537 and the number,
-/// modulo the prime 1,000,003.
-pub fn checksum(numbers: impl Iterator<Item = u64>) -> u64 {
-    numbers.fold(0, |sum, number| (65_537 * sum + number) % 1_000_003)
-}
-
-/// The checksum of a list's numbers: each goes in as its magnitude, and 65,535 behind it where it is negative.
-pub fn list_checksum(list: &[i16]) -> u64 {
-    let signed = |number: &i16| {
-        let sign = (*number < 0).then_some(65_535);
-        std::iter::once(u64::from(number.unsigned_abs())).chain(sign)
-    };
-    checksum(list.iter().flat_map(signed))
-}
-
-pub fn byte_checksum(bytes: &[u8]) -> u64 {
-    checksum(bytes.iter().map(|&byte| byte.into()))
+/// The length of something that is lent, in two bytes, high byte first.
+fn length_bytes(length: usize) -> [u8; 2] {
+    u16::try_from(length).expect("a length has 16 bits").to_be_bytes()
 }
 
 /// A list's numbers, two bytes each, high byte first.
@@ -133,14 +125,13 @@ pub fn engine(mut list: Vec<i16>) -> Vector {
 /// The lent list's length in two bytes, high byte first, then the description. The list holds 12,321 everywhere before the call; its
 /// checksum after it is printed.
 pub fn loader(case: &LoaderCase) -> Vector {
-    let room = u16::try_from(case.room).expect("a length has 16 bits").to_be_bytes();
     let mut list = vec![12_321; case.room];
     let printed = match description::load(&case.text, &mut list) {
         Ok(count) => format!("points {count}\n"),
         Err(refusal) => listing::refused(refusal),
     };
     let printed = printed + &format!("list {}\n", list_checksum(&list));
-    Vector { call: Call::Loader, bytes: [&room[..], &case.text].concat(), printed }
+    Vector { call: Call::Loader, bytes: [&length_bytes(case.room)[..], &case.text].concat(), printed }
 }
 
 /// The two points that are fixed, then the list, two bytes a number, high byte first: the disk that the procedure ends on, its tests, and
@@ -211,10 +202,9 @@ pub fn append(case: &AppendCase) -> Vector {
         DrawnPoint::Whole(x, y) => (1, i64::from(x) as u64, i64::from(y) as u64),
         DrawnPoint::Drawn(x, y) => (2, x.to_bits(), y.to_bits()),
     };
-    let room = u16::try_from(case.room).expect("a length has 16 bits");
     let mut bytes = vec![kind];
     bytes.extend([x, y, case.n].iter().flat_map(|number| number.to_be_bytes()));
-    bytes.extend(room.to_be_bytes());
+    bytes.extend(length_bytes(case.room));
     bytes.extend(bytes_of(&case.front));
     let mut list = case.list();
     let answer = drawing::append(case.point, &mut list, case.n);
@@ -379,12 +369,5 @@ mod tests {
         assert_eq!(vector.bytes.len(), 54);
         let left = byte_checksum(&[238; 52]);
         assert_eq!(vector.printed, format!("refused 7\nrefused 7\nrefused 8\nbuffer {left}\n"));
-    }
-
-    #[test]
-    fn the_checksum_depends_on_the_order() {
-        assert_eq!(checksum([1, 2].into_iter()), 65_539);
-        assert_ne!(checksum([1, 2].into_iter()), checksum([2, 1].into_iter()));
-        assert_eq!(list_checksum(&[1, -2]), checksum([1, 2, 65_535].into_iter()));
     }
 }

@@ -1,4 +1,4 @@
-//! The reference's listing program for sheets as it is run: the sheet on standard input, the allowance as an argument or none.
+//! The reference's listing program for sheets as it is run: the sheet on standard input, the allowance or `estimate` as an argument or none.
 
 use std::io::Write;
 use std::process::{Command, Stdio};
@@ -26,6 +26,11 @@ fn the_allowance_is_the_argument_or_the_most() {
     assert_eq!(printed(&["7"]), format!("{worked} 0\n"));
     assert_eq!(printed(&["6"]), "glyph 0 refused 16\nglyph 1 refused 5\nworked 0 left 6\n");
     assert_eq!(printed(&["1152921504606846976"]), "refused 17\n");
+}
+
+#[test]
+fn the_argument_may_ask_what_the_sheet_will_take() {
+    assert_eq!(printed(&["estimate"]), "glyph 0 points 3\nglyph 1 refused 5\nbytes 53 tests 7\n");
 }
 
 /// `tests/listing/sheets` expects the same of the product's program.

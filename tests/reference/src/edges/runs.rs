@@ -1,15 +1,14 @@
 //! Sheets run under one allowance of tests (02, item 12): which glyphs are worked, the numbers of the others, what is left, and the checks.
 //!
-//! A sheet is written as a row of names, one for each glyph: a letter of document 01 stands for its description, and others as [`text`] has
-//! them. The counts of the letters are A 1, B 3, C 3, D 7, E 6, F 7, G 4, H 3, I 7, J 7, K 7.
+//! A sheet is written as a row of names, one for each glyph (`edges/glyphs.rs`). The counts of the letters are A 1, B 3, C 3, D 7, E 6, F 7, G 4,
+//! H 3, I 7, J 7, K 7.
 
+use super::glyphs::{glyphs_of, place_of, sheet_of};
 use super::{Answer, Edge};
-use crate::description::describe;
 use crate::geometry::Disk;
 use crate::inputs::RunCase;
 use crate::letters::{points, LETTERS};
 use crate::record::{bytes_of, LONG};
-use crate::sheet::{laid_out, with_directory};
 
 mod checks;
 
@@ -30,51 +29,9 @@ pub fn runs() -> Vec<Running> {
     short.chain(letters_alone()).chain(letters_in_a_row()).chain(checks::checks()).collect()
 }
 
-/// The bytes of a glyph by its name. A digit is the number that its description is refused with.
-fn text(name: char) -> Vec<u8> {
-    match name {
-        'a' => b"0 0".to_vec(),
-        'm' => b"0 0\n".repeat(4_096),
-        's' => [&b"0 0\n"[..], &[b' '; 65_525]].concat(),
-        '2' => b"0 0\n1\n".to_vec(),
-        '3' => b"2049 0".to_vec(),
-        '4' => b"0 0\n".repeat(4_097),
-        '5' => b" \n".to_vec(),
-        '_' => vec![],
-        _ => describe(&points(LETTERS[place_of(name)].list)),
-    }
-}
-
-/// Which of the letters of document 01 has the disk and rim set of the glyph.
-fn place_of(name: char) -> usize {
-    if name.is_lowercase() {
-        0
-    } else {
-        name as usize - 'A' as usize
-    }
-}
-
 fn record(name: char) -> Vec<u8> {
     let (x, y, e, s) = LETTERS[place_of(name)].disk;
     bytes_of(&LONG, &Disk { x, y, e, s }, &points(LETTERS[place_of(name)].support))
-}
-
-/// The sheet of these glyphs; a dot is a byte of a gap, the digit 9.
-pub fn sheet_of(names: &str) -> Vec<u8> {
-    let mut behind_gaps = Vec::new();
-    let mut gap = Vec::new();
-    for name in names.chars() {
-        match name {
-            '.' => gap.push(b'9'),
-            _ => behind_gaps.push((std::mem::take(&mut gap), text(name))),
-        }
-    }
-    let (pairs, body) = laid_out(&behind_gaps);
-    [with_directory(&pairs, &body), gap].concat()
-}
-
-fn glyphs_of(names: &str) -> impl Iterator<Item = char> + '_ {
-    names.chars().filter(|&name| name != '.')
 }
 
 /// The glyphs, T, the numbers, how many are worked, and what is left.

@@ -79,6 +79,14 @@ fn longest() -> impl Iterator<Item = Opening> {
     })
 }
 
+/// The short sheets that are refused with 6, whatever glyph is asked for.
+pub fn short_bad_sheets() -> Vec<Vec<u8>> {
+    let refused = sheets().into_iter().filter(|edge| edge.gives == Err(6)).map(|edge| edge.given.bytes);
+    let mut bad: Vec<Vec<u8>> = refused.filter(|sheet| sheet.len() < 100).collect();
+    bad.dedup();
+    bad
+}
+
 /// Bytes from a place on.
 type Bytes = &'static [(usize, &'static [u8])];
 

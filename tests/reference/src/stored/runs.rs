@@ -3,15 +3,21 @@
 use crate::edges;
 use crate::inputs::RunCase;
 use crate::random::Random;
-use crate::run::{self, MOST_BUFFER, MOST_NUMBERS};
+use crate::run;
+use crate::sheet::{MOST_BUFFER, MOST_PLACES};
 
-/// How many glyphs a sheet has at most, each as likely as another.
-const GLYPHS: [usize; 10] = [4, 6, 6, 8, 8, 10, 10, 15, 15, 30];
+/// How many glyphs a sheet has at most: up to 30, and in one case of a hundred 1,200.
+pub fn most_glyphs(random: &mut Random) -> usize {
+    if random.chance(1) {
+        1_200
+    } else {
+        random.pick(&[4, 6, 6, 8, 8, 10, 10, 15, 15, 30])
+    }
+}
 
-/// `count` sheets with allowances and the lengths of buffers and lists, one of a hundred with up to 1,200 glyphs.
+/// `count` sheets with allowances and the lengths of buffers and lists.
 pub fn to_run(random: &mut Random, count: usize) -> Vec<RunCase> {
-    let most = |random: &mut Random| if random.chance(1) { 1_200 } else { random.pick(&GLYPHS) };
-    (0..count).map(|_| run::draw(most(random), random)).collect()
+    (0..count).map(|_| run::draw(most_glyphs(random), random)).collect()
 }
 
 pub fn stored_to_run() -> Vec<RunCase> {
@@ -21,7 +27,7 @@ pub fn stored_to_run() -> Vec<RunCase> {
 /// The edges by hand whose buffers and lists are not too long for a stored case.
 pub fn edges_to_run() -> impl Iterator<Item = RunCase> {
     let given = edges::runs().into_iter().map(|edge| edge.given);
-    given.filter(|case| case.buffer <= MOST_BUFFER && case.numbers <= MOST_NUMBERS)
+    given.filter(|case| case.buffer <= MOST_BUFFER && case.numbers <= MOST_PLACES)
 }
 
 #[cfg(test)]
@@ -30,7 +36,7 @@ mod tests {
     use crate::damage::point_lists::tests::{assert_kinds, KindOfList};
     use crate::run::tests::{after, Ran};
     use crate::run::{run_sheet, Outcome};
-    use crate::sheet;
+    use crate::sheet::{self, tests::gaps};
 
     /// A case that is refused: the number, and of a sheet that is not refused the counts of all glyphs and of the acceptable ones.
     struct Refused {
@@ -42,10 +48,8 @@ mod tests {
     impl Refused {
         fn new(case: &RunCase) -> Option<Refused> {
             let number = after(case, run_sheet).0.err()?.number();
-            let glyphs = sheet::parts(&case.sheet).ok().map(|parts| {
-                let texts = parts.iter().map(|part| &case.sheet[part.clone()]);
-                (parts.len(), run::solve_each(texts).iter().flatten().count())
-            });
+            let glyphs = sheet::texts(&case.sheet).ok();
+            let glyphs = glyphs.map(|texts| (texts.len(), run::solve_each(texts).iter().flatten().count()));
             Some(Refused { case: case.clone(), number, glyphs })
         }
 
@@ -123,12 +127,8 @@ mod tests {
             worked.filter_map(|(glyph, _)| glyph.as_ref().ok()).any(|a| is_so(a.disk.s, a.support.len(), a.tests))
         }
 
-        /// The bytes between the directory and the first part, between each two parts, and behind the last.
         fn gaps(&self) -> Vec<usize> {
-            let parts = sheet::parts(&self.case.sheet).unwrap();
-            let starts = parts.iter().map(|part| part.start).chain([self.case.sheet.len()]);
-            let ends = [2 + 4 * parts.len()].into_iter().chain(parts.iter().map(|part| part.end));
-            starts.zip(ends).map(|(start, end)| start - end).collect()
+            gaps(&self.case.sheet)
         }
 
         /// By how much the buffer and the list are longer than they have to be.

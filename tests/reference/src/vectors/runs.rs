@@ -1,6 +1,7 @@
 //! Sheets run under one allowance of tests.
 
-use super::{byte_checksum, checksum, Call, Vector};
+use super::checksums::{byte_checksum, glyph_checksum};
+use super::{length_bytes, Call, Vector};
 use crate::inputs::RunCase;
 use crate::listing;
 use crate::run::run_sheet;
@@ -8,15 +9,14 @@ use crate::run::run_sheet;
 /// The allowance in eight bytes and the lengths of buffer and list in two each, high byte first; then the sheet. The checksums of both after
 /// the call are printed.
 pub fn run(case: &RunCase) -> Vector {
-    let lengths = [case.buffer, case.numbers].map(|length| u16::try_from(length).expect("a length has 16 bits").to_be_bytes());
+    let lengths = [case.buffer, case.numbers].map(length_bytes);
     let bytes = [&case.allowance.to_be_bytes(), &lengths.concat()[..], &case.sheet].concat();
     let (mut buffer, mut numbers) = case.lent();
     let printed = match run_sheet(&case.sheet, case.allowance, &mut buffer, &mut numbers) {
         Ok(run) => format!("worked {} {}\n", run.worked, run.left),
         Err(refusal) => listing::refused(refusal),
     };
-    let numbers = checksum(numbers.into_iter().map(u64::from));
-    let printed = printed + &format!("buffer {}\nnumbers {numbers}\n", byte_checksum(&buffer));
+    let printed = printed + &format!("buffer {}\nnumbers {}\n", byte_checksum(&buffer), glyph_checksum(&numbers));
     Vector { call: Call::Run, bytes, printed }
 }
 
@@ -37,10 +37,10 @@ mod tests {
         let p = Point::new(7, 7);
         let record = bytes_of(&LONG, &Disk::of_one(p), &[p]);
         let worked = byte_checksum(&[&record[..], &[238; 54]].concat());
-        let [all, two] = [[2, 0, 12_321], [2, 16, 12_321]].map(|numbers| checksum(numbers.into_iter()));
+        let [all, two] = [[2, 0, 12_321], [2, 16, 12_321]].map(|numbers| glyph_checksum(&numbers));
         assert_eq!(vector(3, 107).printed, format!("worked 1 2\nbuffer {worked}\nnumbers {all}\n"));
         assert_eq!(vector(0, 107).printed, format!("worked 0 0\nbuffer {}\nnumbers {two}\n", byte_checksum(&[238; 107])));
-        let (buffer, numbers) = (byte_checksum(&[238; 105]), checksum([12_321; 3].into_iter()));
+        let (buffer, numbers) = (byte_checksum(&[238; 105]), glyph_checksum(&[12_321; 3]));
         assert_eq!(vector(1 << 60, 105).printed, format!("refused 8\nbuffer {buffer}\nnumbers {numbers}\n"));
     }
 }

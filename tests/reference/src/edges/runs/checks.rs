@@ -1,7 +1,8 @@
 //! The room that a run needs, its checks, and the longest sheets.
 
-use super::{sheet_of, with_rooms, Running};
-use crate::edges::sheets::sheets;
+use super::{with_rooms, Running};
+use crate::edges::glyphs::sheet_of;
+use crate::edges::sheets::short_bad_sheets;
 use crate::edges::{Answer, Edge};
 use crate::inputs::RunCase;
 
@@ -146,12 +147,9 @@ fn too_much() -> impl Iterator<Item = Running> {
 
 /// The short sheets that the opener refuses with 6, also with no room (8), with too great a T (17), and with both.
 fn bad_sheets() -> Vec<Running> {
-    let opened = sheets().into_iter().filter(|edge| edge.gives == Err(6)).map(|edge| edge.given.bytes);
-    let mut bad: Vec<Vec<u8>> = opened.filter(|sheet| sheet.len() < 100).collect();
-    bad.dedup();
     let others = [(9, 700, 13), (9, 0, 0), (TOO_MUCH, 700, 13), (TOO_MUCH, 0, 0)];
     let edge = |sheet: Vec<u8>| others.map(|lent| refused("Checks: 1, 6, then 8 .. then 17", lent, sheet.clone(), 6));
-    bad.into_iter().flat_map(edge).collect()
+    short_bad_sheets().into_iter().flat_map(edge).collect()
 }
 
 /// Sheets of about 65,535 bytes: one without glyphs and one with a part that starts in the directory, 0 behind what is said; one with a part
