@@ -6,6 +6,7 @@ mod hull;
 mod point_lists;
 mod records;
 mod sheet_run;
+mod sheets;
 mod stretch;
 
 use reference::chosen;
