@@ -8,6 +8,7 @@ use Rattle.hull_points.proofs.Answers.{list-kept}
 use Rattle.record_writer.specs.Writing.{leftBy}
 use Rattle.run_steps.specs.Steps.{State}
 use Rattle.sheet_run.specs.Running.{bufferBy, numbersBy}
+use Rattle.sheet_estimate.specs.Estimating.{Estimate, pointsBy, refusalsBy}
 use Rattle.rules.proofs.Calls as calls
 use Rattle.claims.specs.Demand1.{Demand1}
 
@@ -26,10 +27,12 @@ demand-one = record {
   hull = calls.hull;
   stretch = calls.stretch;
   run = calls.run;
+  estimate = calls.estimate;
   loader-keeps = λ t l n e. after-refused t l n e;
   engine-keeps = λ l n e. list-refused l e;
   writer-keeps = λ d ps b n e. ap (λ (o : Outcome (Unit {0})). leftBy o d ps b) e;
   append-keeps = λ p l n k e. append-refused p l n e;
   hull-keeps = λ l n e. list-kept l e;
   run-keeps = λ s t b ns n e. (ap (λ (o : Outcome State). bufferBy o b) e, ap (λ (o : Outcome State). numbersBy o ns) e);
+  estimate-keeps = λ s ps rs n e. (ap (λ (o : Outcome Estimate). pointsBy o ps) e, ap (λ (o : Outcome Estimate). refusalsBy o rs) e);
 }

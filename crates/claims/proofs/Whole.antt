@@ -23,7 +23,7 @@ use Rattle.geometry.proofs.PointLists.{points-of-flat}
 use Rattle.point_lists.proofs.Order.{ByCoordinates, by-x, by-y, by-coordinates, is-before}
 use Rattle.disks.specs.Procedure.{diskOf}
 use Rattle.disks.specs.Support.{firstSupport}
-use Rattle.description.specs.Description.{loadOf, named}
+use Rattle.description.specs.Description.{loadOf, named, room}
 use Rattle.description.proofs.AcceptedTexts.{accepted-front}
 use Rattle.engine.specs.Engine.{Enclosure, enclosure, encloseOf}
 use Rattle.disk_checks.specs.Checks.{checkOf}
@@ -34,7 +34,7 @@ use Rattle.record_writer.specs.Writing.{writeOf}
 use Rattle.record_writer.specs.Writing as writing
 use Rattle.preview.specs.declared.Preview.{Preview}
 use Rattle.preview.specs.Preview.{previewOf}
-use Rattle.letter.specs.Letter.{room, enclosureIn, enclosureOf, Letter, letter, letterOf, letterIn, bufferAfter}
+use Rattle.letter.specs.Letter.{enclosureIn, enclosureOf, Letter, letter, letterOf, letterIn, bufferAfter}
 use Rattle.letter.proofs.Whole.{enclosure-given, enclosure-refused, enclosure-checked, letter-named}
 use Rattle.rules.specs.Row.{_unless_, GoesBy}
 use Rattle.rules.specs.Rules.{loaderRow}

@@ -6,8 +6,8 @@
 --
 -- `GoesBy row o`: o is refused with n exactly where n is due first by the row, and a value is given exactly where every rule is kept (rules/specs/Row.antt).
 -- The rows, with the papers' numbers in their order: rules/specs/Rules.antt. The loader is lent a list, the engine its point list, the writer a
--- buffer, the call of document 02, item 2 a list that it puts a point into, that of item 8 the list that it reduces, and that of item 12 a buffer and a
--- list; descriptions, sheets, records and the lists of the calls of items 6, 7 and 11 are lent to be read alone.
+-- buffer, the call of document 02, item 2 a list that it puts a point into, that of item 8 the list that it reduces, that of item 12 a buffer and a list,
+-- and that of item 13 two lists; descriptions, sheets, records and the lists of the calls of items 6, 7 and 11 are lent to be read alone.
 use mathlib.Core.Path.{_≡_}
 use mathlib.Core.List.{List}
 use Prim.Native.Nat.{ℕ}
@@ -23,6 +23,8 @@ use Rattle.drawn_points.specs.Appending.{appendOf}
 use Rattle.sheet.specs.Sheet.{glyphOf}
 use Rattle.sheet_run.specs.Running as running
 use Rattle.sheet_run.specs.Running.{runOf}
+use Rattle.sheet_estimate.specs.Estimating as estimating
+use Rattle.sheet_estimate.specs.Estimating.{estimateOf}
 use Rattle.engine.specs.Engine.{encloseOf, listAfter}
 use Rattle.chosen_points.specs.declared.Chosen.{Chosen}
 use Rattle.chosen_points.specs.Chosen.{throughOf}
@@ -35,7 +37,7 @@ use Rattle.radius.specs.Radius.{radiusOf}
 use Rattle.record_writer.specs.Writing.{writeOf, bufferAfter}
 use Rattle.record_reader.specs.Reading.{readOf}
 use Rattle.rules.specs.Row.{GoesBy}
-use Rattle.rules.specs.Rules.{Bytes, loaderRow, sheetRow, runRow, engineRow, writerRow, readerRow, diskRow, appendRow, throughRow, tracedRow}
+use Rattle.rules.specs.Rules.{Bytes, loaderRow, sheetRow, runRow, estimateRow, engineRow, writerRow, readerRow, diskRow, appendRow, throughRow, tracedRow}
 
 pub record Demand1 : Type 0 where
   -- "the call gives the refusal number due first .. if none is broken, it is not refused"
@@ -52,6 +54,7 @@ pub record Demand1 : Type 0 where
   pub hull : (l : List ℤ) → GoesBy (engineRow l) (reduceOf l)
   pub stretch : (l : List ℤ) → GoesBy (engineRow l) (stretchOf l)
   pub run : (s : List ℕ) (t : ℕ) (b ns : List ℕ) → GoesBy (runRow s t b ns) (runOf s t b ns)
+  pub estimate : (s ps rs : List ℕ) → GoesBy (estimateRow s ps rs) (estimateOf s ps rs)
   -- "and changes nothing it was lent"
   pub loader-keeps : (t : List ℕ) (l : List ℤ) (n : ℕ) → loadOf t l ≡ refused n → description.listAfter t l ≡ l
   pub engine-keeps : (l : List ℤ) (n : ℕ) → encloseOf l ≡ refused n → listAfter l ≡ l
@@ -61,3 +64,6 @@ pub record Demand1 : Type 0 where
   pub run-keeps :
       (s : List ℕ) (t : ℕ) (b ns : List ℕ) (n : ℕ) → runOf s t b ns ≡ refused n
       → (running.bufferAfter s t b ns ≡ b) × (running.numbersAfter s t b ns ≡ ns)
+  pub estimate-keeps :
+      (s ps rs : List ℕ) (n : ℕ) → estimateOf s ps rs ≡ refused n
+      → (estimating.pointsAfter s ps rs ≡ ps) × (estimating.refusalsAfter s ps rs ≡ rs)

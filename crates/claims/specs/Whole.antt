@@ -20,11 +20,11 @@ use Rattle.geometry.specs.Order.{before}
 use Rattle.disks.specs.Smallest.{Smallest}
 use Rattle.disks.specs.Procedure.{mtf}
 use Rattle.disks.specs.FirstSupport.{IsFirstSupport}
-use Rattle.description.specs.Description.{named}
+use Rattle.description.specs.Description.{named, room}
 use Rattle.record_writer.specs.Layout.{recordLength}
 use Rattle.record_writer.specs.Bytes.{recordBytes}
 use Rattle.preview.specs.declared.Preview.{Preview}
-use Rattle.letter.specs.Letter.{room, Letter, letterIn, bufferAfter}
+use Rattle.letter.specs.Letter.{Letter, letterIn, bufferAfter}
 use Rattle.rules.specs.Row.{_unless_, GoesBy}
 use Rattle.rules.specs.Rules.{loaderRow}
 use Rattle.claims.specs.Values.{LeastRadius, PreviewIsRight, bits}

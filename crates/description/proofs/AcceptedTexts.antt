@@ -1,5 +1,6 @@
 -- Accepted descriptions: those that the loader, lent at least 8,192 numbers, does not refuse (01, "Description, sheet, record").
 --
+--   room-long                 : `room` has 8,192 numbers
 --   load-same                 : the answer does not depend on the list lent, where it has 8,192 numbers or more
 --   accepted-room, accepted-short : the list has them, and the description at most 65,535 bytes
 --   accepted-count            : the answer is the number of points named
@@ -7,15 +8,15 @@
 --   accepted-in-box           : each of them is in the em box
 --   accepted-front            : they stand at the front of the list
 use Prim.Native.Nat.{ℕ, suc, _+_, _*_, _≤_, _<_}
-use mathlib.Core.Path.{_≡_, sym, _∙_, ap}
+use mathlib.Core.Path.{_≡_, sym, _∙_, ap, subst}
 use mathlib.Core.Logic.{_⊎_, inl, inr}
 use mathlib.Core.Bool.{true, not}
 use mathlib.Core.List.{List, [], _∷_, List·Memᴰ, List·Memᴰ·cases-cons, List·Memᴰ·not-nil}
 use native.Mathlib.Omega.{arith}
 use borrow.Author.Tests.{le-ltb, ltb-false, leb-false, eqb-false, not-false}
 use lib.Dec.{ltb, leb, eqb}
-use lib.IntN.{ℤ}
-use lib.ListN.{length, take, drop}
+use lib.IntN.{ℤ, pos}
+use lib.ListN.{length, take, drop, length-replicate}
 use lib.Seq.{take-at}
 use Rattle.answers.specs.Outcome.{Outcome, given, refuseIf}
 use Rattle.geometry.specs.declared.Point.{Point}
@@ -24,7 +25,7 @@ use Rattle.geometry.specs.Points.{flat}
 use Rattle.answers.proofs.OutcomeLaws.{not-given, given-same, not-refused}
 use Rattle.geometry.proofs.PointLists.{length-flat}
 use Rattle.lines.specs.Line.{Line, blank, point, fault}
-use Rattle.description.specs.Description.{linesRead, pointsOn, named, byLine, loadOf, listAfter}
+use Rattle.description.specs.Description.{linesRead, pointsOn, named, byLine, loadOf, room, listAfter}
 use Rattle.description.proofs.Loading.{load-judged, after-given}
 
 -- ---- the lines
@@ -61,6 +62,9 @@ passed-lines (point p ∷ ls) n m l h =
     passed-point n m p ls (not-false (inEmBox p) (box .0)) (passed-lines ls (suc n) m (omega arith) (room .1))
 
 -- ---- the description
+
+pub room-long : 8192 ≤ length room
+room-long = subst (λ (n : ℕ). 8192 ≤ n) (sym (length-replicate 8192 (pos 0))) (omega arith)
 
 pub load-same : (text : List ℕ) (list other : List ℤ) → 8192 ≤ length list → 8192 ≤ length other → loadOf text list ≡ loadOf text other
 unfolding loadOf

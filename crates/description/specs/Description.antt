@@ -5,15 +5,17 @@
 --   named text          == the points that a description names: those on its lines, in file order, repeats kept
 --   byLine n ls         == the verdict on the lines ls behind lines with n points: the first faulty line decides
 --   loadOf text list    == the loader's answer: the number of points, or the refusal due first
+--   room                == a list that the loader can be lent: as short as it takes
 --   listAfter text list == what the lent list holds after the call
 --   outcome r           == the answer r as a number of points or document 01's number
 use Prim.Native.Nat.{ℕ, suc}
 use mathlib.Core.Bool.{not}
-use mathlib.Core.List.{List, [], _∷_, _++_, map}
+use mathlib.Core.List.{List, [], _∷_, map}
 use lib.Dec.{eqb, leb, ltb}
-use lib.IntN.{ℤ}
-use lib.ListN.{length, drop}
+use lib.IntN.{ℤ, pos}
+use lib.ListN.{length, replicate}
 use Rattle.answers.specs.Outcome.{Outcome, given, refused, numberOf, refuseIf}
+use Rattle.answers.specs.Lent.{frontPut}
 use Rattle.geometry.specs.declared.Point.{Point}
 use Rattle.geometry.specs.EmBox.{inEmBox}
 use Rattle.geometry.specs.Points.{flat}
@@ -51,13 +53,16 @@ loadOf text list =
     (refuseIf (ltb 65535 (length text)) 1
     (byLine 0 (linesRead text)))
 
-abbrev pub frontPut : Outcome ℕ → List ℤ → List ℤ → List ℤ
-frontPut (given n) front list = front ++ drop (length front) list
-frontPut (refused k) front list = list
+abbrev pub room : List ℤ
+room = replicate 8192 (pos 0)
+
+abbrev pub listBy : Outcome ℕ → List ℤ → List ℤ → List ℤ
+listBy (given n) front list = frontPut front list
+listBy (refused k) front list = list
 
 -- the points in file order at the front of the list and the rest as it was; refused, all as it was
 unfoldable pub listAfter : List ℕ → List ℤ → List ℤ
-listAfter text list = frontPut (loadOf text list) (flat (named text)) list
+listAfter text list = listBy (loadOf text list) (flat (named text)) list
 
 abbrev pub outcome : Loaded → Outcome ℕ
 outcome (Points n) = given n

@@ -4,7 +4,6 @@
 --   enclosure-loaded   : loader, then engine, by what the loader gives
 --   named-enclosed     : the engine, given the points that an accepted description names
 --   enclosure-given, enclosure-refused : of these only the loader refuses
---   room-long          : the list of its own is long enough
 --   enclosure-any      : in any list that is long enough they give the same
 --   enclosure-checked  : the writer takes what they give
 --   letter-enclosed, letter-unenclosed : the letter is what they give, or their refusal
@@ -20,8 +19,8 @@ use mathlib.Core.List.{List}
 use Prim.Native.Nat.{ℕ, _*_, _/_, _%_, _≤_, _<_}
 use native.Mathlib.Omega.{arith}
 use borrow.Author.Tests.{lt-ltb, le-ltb}
-use lib.IntN.{ℤ, pos}
-use lib.ListN.{length, take, length-replicate}
+use lib.IntN.{ℤ}
+use lib.ListN.{length, take}
 use Rattle.answers.specs.Outcome.{Outcome, given, refused, andThen}
 use Rattle.answers.proofs.OutcomeLaws.{not-given, given-same, same-given, both-given}
 use Rattle.integers.proofs.Tests.{true-test}
@@ -30,8 +29,8 @@ use Rattle.geometry.specs.EmBox.{allInEmBox}
 use Rattle.geometry.specs.Points.{flat}
 use Rattle.geometry.proofs.EmBox.{members-box}
 use Rattle.geometry.proofs.PointLists.{length-flat, points-of-flat}
-use Rattle.description.specs.Description.{named, loadOf, listAfter}
-use Rattle.description.proofs.AcceptedTexts.{accepted-count, accepted-some, accepted-few, accepted-in-box, accepted-front, load-same}
+use Rattle.description.specs.Description.{named, loadOf, room, listAfter}
+use Rattle.description.proofs.AcceptedTexts.{room-long, accepted-count, accepted-some, accepted-few, accepted-in-box, accepted-front, load-same}
 use Rattle.engine.specs.Engine.{Enclosure, enclosure, encloseOf}
 use Rattle.engine.proofs.Checks.{accepted}
 use Rattle.disk_checks.specs.Checks.{checkOf}
@@ -39,7 +38,7 @@ use Rattle.disk_checks.proofs.CheckLaws.{passed}
 use Rattle.record_writer.specs.Layout.{recordLength}
 use Rattle.record_writer.specs.Writing as writing
 use Rattle.record_writer.proofs.ByteLaws.{record-long}
-use Rattle.letter.specs.Letter.{room, enclosureIn, enclosureOf, Letter, letter, letterOf, letterIn, bufferAfter}
+use Rattle.letter.specs.Letter.{enclosureIn, enclosureOf, Letter, letter, letterOf, letterIn, bufferAfter}
 use Rattle.letter.proofs.ValidAnswer.{checked-enclosure}
 
 -- ---- the engine, given a list of points
@@ -91,9 +90,6 @@ module _ (text : List ℕ) (list : List ℤ) where
       by-load : (o : Outcome ℕ) → loadOf text list ≡ o → checkOf (e .disk) (e .support) ≡ given tt
       by-load (given n) loads = checked-enclosure (take (2 * n) (listAfter text list)) e (sym (enclosure-loaded n loads) ∙ h)
       by-load (refused k) refuses = absurd (not-given (sym (enclosure-refused k refuses) ∙ h))
-
-pub room-long : 8192 ≤ length room
-room-long = subst (λ (n : ℕ). 8192 ≤ n) (sym (length-replicate 8192 (pos 0))) (omega arith)
 
 pub enclosure-any : (text : List ℕ) (list : List ℤ) → 8192 ≤ length list → enclosureIn text list ≡ enclosureOf text
 enclosure-any text list long = by-load (loadOf text list) refl

@@ -1,6 +1,5 @@
 -- One letter worked whole: the calls one after another, from the bytes of a description to its record (01, "Description, sheet, record").
 --
---   room                    == the list that the loader is lent: as short as it takes
 --   enclosureIn text list   == loader, lent the list; then engine, which is given the loader's points alone
 --   enclosureOf text        == the same in a list of its own
 --   Letter                  == what a description comes to: the number of tests, and the bytes of its record
@@ -15,18 +14,15 @@
 use mathlib.Core.List.{List, _++_}
 use Prim.Native.Nat.{ℕ, _*_}
 use lib.Dec.{ltb}
-use lib.IntN.{ℤ, pos}
-use lib.ListN.{length, take, drop, replicate}
+use lib.IntN.{ℤ}
+use lib.ListN.{length, take, drop}
 use Rattle.answers.specs.Outcome.{Outcome, given, refused, numberOf, refuseIf, andThen}
-use Rattle.description.specs.Description.{loadOf, listAfter}
+use Rattle.description.specs.Description.{loadOf, room, listAfter}
 use Rattle.engine.specs.Engine.{Enclosure, encloseOf}
 use Rattle.record_writer.specs.Layout.{recordLength}
 use Rattle.record_writer.specs.Bytes.{recordBytes}
 use Rattle.letter.specs.declared.Worked.{Worked}
 use Rattle.letter.specs.declared.Worked.the-variants.{Done, Refused}
-
-abbrev pub room : List ℤ
-room = replicate 8192 (pos 0)
 
 unfoldable pub enclosureIn : List ℕ → List ℤ → Outcome Enclosure
 enclosureIn text list = andThen (loadOf text list) (λ n. encloseOf (take (2 * n) (listAfter text list)))

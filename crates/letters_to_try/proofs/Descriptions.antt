@@ -17,12 +17,11 @@ use Rattle.geometry.specs.declared.Point.{Point}
 use Rattle.geometry.specs.EmBox.{inBox}
 use Rattle.lines.specs.Line.{joinPiece, pieces, nonEmpty, lineOfWords}
 use Rattle.numerals.specs.Numeral.{allDigits, decimal, digits, numeral}
-use Rattle.description.specs.Description.{linesRead, pointsOn, byLine, named}
+use Rattle.description.specs.Description.{linesRead, pointsOn, byLine, named, room}
 use Rattle.description.proofs.Loading.{load-judged}
+use Rattle.description.proofs.AcceptedTexts.{room-long}
 use Rattle.point_lists.specs.Sets.{In, same, has, allOf}
 use Rattle.point_lists.proofs.SetTests.{has-in, all-in}
-use Rattle.letter.specs.Letter.{room}
-use Rattle.letter.proofs.Whole.{room-long}
 use Rattle.claims.specs.Demand3.{AcceptedDescription}
 use Rattle.letters_to_try.specs.Letters.{Letter, letters}
 use Rattle.claims.proofs.Demand3.{demand-three}

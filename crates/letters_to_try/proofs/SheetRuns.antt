@@ -19,6 +19,7 @@ use Rattle.lines.specs.Line.{joinPiece, pieces, nonEmpty, lineOfWords}
 use Rattle.numerals.specs.Numeral.{allDigits, decimal, digits, numeral}
 use Rattle.description.specs.Description.{pointsOn, byLine, loadOf, listAfter}
 use Rattle.directory.specs.Directory.{pairs, follow, countOf}
+use Rattle.sheet.specs.Sheet.{parts}
 use Rattle.record_writer.specs.Bytes.{recordBy}
 use Rattle.letter.specs.Letter.{enclosureIn, letterOf}
 use Rattle.run_steps.specs.Steps as steps-of
@@ -28,14 +29,14 @@ use Rattle.letters_to_try.specs.SheetRuns.{runs, AllRun, Left}
 use Rattle.letters_to_try.proofs.Letters.{_&_}
 
 pub runs-answer : AllRun runs
-unfolding get pairs follow countOf letters runOf letterOf enclosureIn loadOf listAfter encloseOf steps-of.step tried pass
+unfolding get pairs follow countOf parts letters runOf letterOf enclosureIn loadOf listAfter encloseOf steps-of.step tried pass
     joinPiece pieces nonEmpty allDigits decimal digits numeral lineOfWords pointsOn byLine inBox allInBox points flat before same
     gcd steps holds outside lowestTerms diameterDisk turnedBy circle boundaryDisk tested step through run
     insert sorted fronted choose sameDisk supports firstOf firstSupport bytesOf twos recordBy
 runs-answer = refl & refl & refl & refl & refl & refl & refl & refl & refl & refl & refl & tt
 
 pub run-leaves : Left
-unfolding get pairs follow countOf letters runOf letterOf enclosureIn loadOf listAfter encloseOf steps-of.step tried pass
+unfolding get pairs follow countOf parts letters runOf letterOf enclosureIn loadOf listAfter encloseOf steps-of.step tried pass
     joinPiece pieces nonEmpty allDigits decimal digits numeral lineOfWords pointsOn byLine inBox allInBox points flat before same
     gcd steps holds outside lowestTerms diameterDisk turnedBy circle boundaryDisk tested step through run
     insert sorted fronted choose sameDisk supports firstOf firstSupport bytesOf twos recordBy

@@ -10,3 +10,4 @@ pub mod FittingPoints
 pub mod WiderEm
 pub mod Stretches
 pub mod SheetRuns
+pub mod SheetEstimates

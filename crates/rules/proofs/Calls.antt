@@ -27,6 +27,7 @@ use Rattle.directory.specs.Directory.{count, directoryEnd, pair, pairs, follow,
 use Rattle.directory.proofs.Rows.{count-known}
 use Rattle.sheet.specs.Sheet.{glyphOf}
 use Rattle.sheet_run.specs.Running.{ran, runOf}
+use Rattle.sheet_estimate.specs.Estimating.{estimated, estimateOf}
 use Rattle.engine.specs.Engine.{enclosure, encloseOf}
 use Rattle.engine.proofs.Checks.{even-length}
 use Rattle.point_lists.specs.Sets.{has, allOf}
@@ -61,7 +62,7 @@ use Rattle.record_reader.proofs.RecordFields.{Wide, wide-em, wide-old}
 use Rattle.preview.specs.Preview.{floats, previewOf}
 use Rattle.rules.specs.Row.{Rule, _unless_, eachOf, GoesBy}
 use Rattle.rules.specs.Rules.{Bytes, RecordableIn, Recordable, IsRecordOf, current, old, IsRecord, Names}
-use Rattle.rules.specs.Rules.{loaderRow, directoryRow, sheetRow, runRow, engineRow, writerRow, readerRow, diskRow, appendRow, throughRow, pointRow, tracedRow}
+use Rattle.rules.specs.Rules.{loaderRow, directoryRow, sheetRow, runRow, estimateRow, engineRow, writerRow, readerRow, diskRow, appendRow, throughRow, pointRow, tracedRow}
 use Rattle.rules.proofs.RowLaws.{row-end, row-step, row-then, row-through, row-none, row-first}
 use Rattle.geometry.proofs.EmBox.{inside, inside-test, all-inside, inside-all}
 use Rattle.rules.proofs.Recordables.{valid-recordable, recordable-valid, belongs-belong, belong-belongs}
@@ -118,6 +119,14 @@ run s t b ns =
     row-step (ltb (length ns) (count s)) 8 (λ h. above (ltb-true (length ns) (count s) h)) (ltb-false (length ns) (count s)) (λ places.
     row-step (leb (2 ^ 60) t) 17 (λ h l. above l (leb-true (2 ^ 60) t h)) (leb-false (2 ^ 60) t) (λ less.
     row-end (ran s t)))))
+
+pub estimate : (s ps rs : List ℕ) → GoesBy (estimateRow s ps rs) (estimateOf s ps rs)
+unfolding estimateOf
+estimate s ps rs =
+    with-count s _ (λ n. refuseIf (ltb (length ps) n) 8 (refuseIf (ltb (length rs) n) 8 (given (estimated s n))))
+    (row-step (ltb (length ps) (count s)) 8 (λ h. above (ltb-true (length ps) (count s) h)) (ltb-false (length ps) (count s)) (λ points-room.
+    row-step (ltb (length rs) (count s)) 8 (λ h. above (ltb-true (length rs) (count s) h)) (ltb-false (length rs) (count s)) (λ refusals-room.
+    row-end (estimated s (count s)))))
 
 -- as many numbers as twice the points
 pub paired : (l : List ℤ) → length l % 2 ≡ 0 → length l ≡ 2 * length (points l)

@@ -11,8 +11,8 @@
 --   IsRecordOf d ps bs == bs is the record of such a disk and points: of 53 bytes, or of 45 by the old limits; IsRecord bs: of some
 --   Names p c          == the drawing program's point p is c: its whole numbers are c's, or its floats stand for them exactly
 --   pointRow s         == the rules of a traced point: 14, then 3
---   loaderRow, directoryRow, sheetRow, runRow, engineRow, writerRow, readerRow, diskRow, appendRow, throughRow, tracedRow == the rows; radius and preview
---                         have diskRow, the call that reduces a list to its hull and that for the widest stretch have engineRow
+--   loaderRow, directoryRow, sheetRow, runRow, estimateRow, engineRow, writerRow, readerRow, diskRow, appendRow, throughRow, tracedRow == the rows; radius
+--                         and preview have diskRow, the call that reduces a list to its hull and that for the widest stretch have engineRow
 --
 -- `Inside em p`: x is from 0 to 2048 and y from −512 to 1536 (geometry/specs/EmBox.antt, which has every limit of points and disks).
 -- `Belong d ps`: the points ps belong to the disk d (belonging/specs/Belonging.antt).
@@ -120,6 +120,14 @@ runRow s t buffer list =
     ++ (8 unless (recordLength * count s ≤ length buffer)
     ∷ 8 unless (count s ≤ length list)
     ∷ 17 unless (t < 2 ^ 60)
+    ∷ [])
+
+-- "Refusals are 1, 6, then 8 for a list that is too short" (02, item 13)
+abbrev pub estimateRow : List ℕ → List ℕ → List ℕ → List Rule
+estimateRow s points-list refusals-list =
+    directoryRow s
+    ++ (8 unless (count s ≤ length points-list)
+    ∷ 8 unless (count s ≤ length refusals-list)
     ∷ [])
 
 -- ---- point lists

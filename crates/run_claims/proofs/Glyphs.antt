@@ -16,15 +16,16 @@ use Rattle.answers.specs.Outcome.{Outcome, given, refused, refuseIf, andThen}
 use Rattle.answers.proofs.OutcomeLaws.{not-given, refused-same, both-given, given-same}
 use Rattle.geometry.specs.EmBox.{inEmBox}
 use Rattle.lines.specs.Line.{Line, blank, point, fault}
-use Rattle.description.specs.Description.{byLine, linesRead, loadOf}
+use Rattle.description.specs.Description.{byLine, linesRead, loadOf, room}
+use Rattle.description.proofs.AcceptedTexts.{room-long}
 use Rattle.description.proofs.Loading.{load-judged}
 use Rattle.directory.specs.Directory.{Place, count, pair, countOf}
 use Rattle.directory.proofs.Rows.{count-known}
 use Rattle.sheet.specs.Sheet.{glyphOf, pickList, partOf, partAt}
 use Rattle.sheet.proofs.Parts.{given-pair, glyph-given}
 use Rattle.record_writer.specs.Layout.{recordLength}
-use Rattle.letter.specs.Letter.{room, Letter, letterOf}
-use Rattle.letter.proofs.Whole.{room-long, letter-loaded, letter-unloaded, letter-named, letter-long}
+use Rattle.letter.specs.Letter.{Letter, letterOf}
+use Rattle.letter.proofs.Whole.{letter-loaded, letter-unloaded, letter-named, letter-long}
 use Rattle.claims.specs.Values.{glyphBytes}
 use Rattle.run_claims.specs.SheetRun.{testsOf}
 

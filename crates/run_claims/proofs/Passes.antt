@@ -25,7 +25,7 @@ use Rattle.answers.specs.Outcome.{Outcome, given, refused}
 use Rattle.directory.specs.Directory.{pairs}
 use Rattle.record_writer.specs.Layout.{recordLength}
 use Rattle.letter.specs.Letter.{Letter}
-use Rattle.sheet.specs.Sheet.{partAt}
+use Rattle.sheet.specs.Sheet.{partAt, parts}
 use Rattle.run_steps.specs.Steps.{State, start, tried, step, pass}
 use Rattle.sheet_run.specs.Running.{letters}
 use Rattle.run_claims.specs.SheetRun.{testsOf, numberAt, when, workedTo, spentTo}
@@ -81,7 +81,7 @@ module _ (s : List ℕ) where
   up t (suc k) = step (glyph s k) (up t k)
 
   pass-up : (t i n : ℕ) → pass (letters s i n) (up t i) ≡ up t (i + n)
-  unfolding letters pairs pass up
+  unfolding letters parts pairs pass up
   pass-up t i zero = ap (up t) (sym (add-zero i))
   pass-up t i (suc n) = let e : suc i + n ≡ i + suc n = omega arith in pass-up t (suc i) n ∙ ap (up t) e
 

@@ -1,6 +1,7 @@
 -- Item 12 holds (specs/SheetRun.antt).
 --
 --   RunKnown, run-known : what is known of a run that is not refused
+--   number-at, along-at : the number of glyph k, and the state behind k glyphs
 --   sheet-run           : SheetRun
 use mathlib.Core.Path.{_≡_, refl, sym, ap, ap₂, _∙_, subst}
 use mathlib.Core.Logic.{_↔_}
@@ -15,9 +16,10 @@ use lib.ListN.{length, take, drop, List·getD-append}
 use lib.Seq.{take-at, drop-at}
 use Rattle.integers.proofs.Tests.{first, rest}
 use Rattle.answers.specs.Outcome.{Outcome, given, refused}
+use Rattle.answers.specs.Lent.{frontPut}
 use Rattle.answers.proofs.OutcomeLaws.{both-given, given-same, not-given}
-use Rattle.description.specs.Description.{loadOf, named}
-use Rattle.description.proofs.AcceptedTexts.{accepted-room}
+use Rattle.description.specs.Description.{loadOf, named, room}
+use Rattle.description.proofs.AcceptedTexts.{room-long, accepted-room}
 use Rattle.directory.specs.Directory.{count, countOf}
 use Rattle.directory.proofs.Rows.{count-known}
 use Rattle.sheet.specs.Sheet.{partAt}
@@ -25,10 +27,10 @@ use Rattle.record_writer.specs.Layout.{recordLength}
 use Rattle.disks.specs.Procedure.{diskOf}
 use Rattle.disks.specs.Support.{firstSupport}
 use Rattle.engine.specs.Engine.{enclosure}
-use Rattle.letter.specs.Letter.{room, Letter, letter, letterOf}
-use Rattle.letter.proofs.Whole.{room-long, letter-loaded, letter-unloaded, letter-named}
+use Rattle.letter.specs.Letter.{Letter, letter, letterOf}
+use Rattle.letter.proofs.Whole.{letter-loaded, letter-unloaded, letter-named}
 use Rattle.run_steps.specs.Steps.{State, tried, step}
-use Rattle.sheet_run.specs.Running.{runOf, answerOf, frontPut, bufferBy, numbersBy, bufferAfter, numbersAfter}
+use Rattle.sheet_run.specs.Running.{runOf, answerOf, bufferBy, numbersBy, bufferAfter, numbersAfter}
 use Rattle.sheet_run.proofs.Rows.{run-is}
 use Rattle.claims.specs.Values.{glyphBytes}
 use Rattle.claims.specs.Demand3.{AcceptedDescription, Answers, worked}
@@ -108,13 +110,13 @@ module _ (s : List ℕ) (t : ℕ) (b ns : List ℕ) (w l : ℕ) (z : RunKnown s 
   numbers-are : numbers ≡ frontPut (end .numbers) ns
   numbers-are = ap (λ (o : Outcome State). numbersBy o ns) (z .comes-to)
 
-  number-at : (k : ℕ) → k < n → numberAt numbers k ≡ noted (glyph s k) (up s t k)
+  pub number-at : (k : ℕ) → k < n → numberAt numbers k ≡ noted (glyph s k) (up s t k)
   number-at k h =
       ap (λ (m : List ℕ). numberAt m k) numbers-are
       ∙ List·getD-append (end .numbers) (drop (length (end .numbers)) ns) 0 k (omega (arith, up-numbers s t n))
       ∙ number-is s t n k h
 
-  along-at : (k : ℕ) → k ≤ n → Along s t numbers k (up s t k)
+  pub along-at : (k : ℕ) → k ≤ n → Along s t numbers k (up s t k)
   along-at k h = along s short t numbers n number-at k h
 
   -- a glyph with a letter

@@ -1,4 +1,4 @@
--- What `glyphOf` says of the parts.
+-- What `glyphOf` says of the parts, and the parts one at a time.
 --
 --   by-count                   : a glyph is the count, then the check of k
 --   glyph-given                : where k is below the count, it is pair k
@@ -6,10 +6,11 @@
 --   given-pair                 : where glyph k is given as p, this is so
 --   given-within               : a part that is given lies within the sheet, behind the directory
 --   given-part                 : `part` hands over exactly its bytes, and as many as its length says
+--   parts-next, parts-done     : the parts from i to n are part i and those from i + 1 on; from n on there is none
 use mathlib.Core.Path.{_≡_, sym, ap, _∙_, subst}
 use mathlib.Core.Bool.{Bool, true}
-use mathlib.Core.List.{List}
-use Prim.Native.Nat.{ℕ, _+_, _≤_, _<_}
+use mathlib.Core.List.{List, [], _∷_, map}
+use Prim.Native.Nat.{ℕ, _+_, _-_, _≤_, _<_}
 use native.Mathlib.Nat.{zero-add}
 use native.Mathlib.Omega.{arith}
 use borrow.Author.Tests.{le-leb, lt-leb, leb-false}
@@ -19,9 +20,10 @@ use lib.Seq.{length-take-le}
 use Rattle.answers.specs.Outcome.{Outcome, given, refuseIf, andThen}
 use Rattle.answers.proofs.OutcomeLaws.{not-refused, both-given, given-same}
 use Rattle.directory.specs.Directory.{Place, count, directoryEnd, pair, pairs, follow, countOf}
+use Rattle.directory.proofs.Directory.{pairs-step, pairs-done}
 use Rattle.directory.proofs.Rows.{count-known}
 use Rattle.directory.proofs.Follow.{follow-pair}
-use Rattle.sheet.specs.Sheet.{glyphOf, pickList, partOf}
+use Rattle.sheet.specs.Sheet.{glyphOf, pickList, partOf, partAt, parts}
 
 module _ (s : List ℕ) (k : ℕ) where
   abbrev below-count : ℕ → Outcome Place
@@ -71,3 +73,16 @@ given-part s k p h =
     ap (λ (b : Bool). pickList b (take (p .len) (drop (p .start) s))) (le-leb (p .start + p .len) (length s) w) in
     let room : p .len ≤ length (drop (p .start) s) = omega (arith, length-drop (p .start) s) in
     (e, ap length e ∙ length-take-le (p .len) (drop (p .start) s) room)
+
+module _ (s : List ℕ) (i n : ℕ) where
+  -- what lies at a place
+  abbrev at-place : Place → List ℕ
+  at-place p = partOf s (p .start) (p .len)
+
+  pub parts-next : i < n → parts s i (n - i) ≡ partAt s i ∷ parts s (i + 1) (n - (i + 1))
+  unfolding parts
+  parts-next h = ap (map at-place) (pairs-step s i n h)
+
+  pub parts-done : n ≤ i → parts s i (n - i) ≡ []
+  unfolding parts
+  parts-done h = ap (map at-place) (pairs-done s i n h)

@@ -5,13 +5,14 @@
 --   outcome r           == the value or the number of 01 that an answer of `glyph` stands for
 --   partOf s start len  == the len bytes of s from start on; none where they do not all lie in s
 --   partAt s k          == the bytes that pair k of the directory names
+--   parts s i n         == the n parts from part i on
 use mathlib.Core.Bool.{Bool, true, false}
-use mathlib.Core.List.{List, []}
+use mathlib.Core.List.{List, [], map}
 use Prim.Native.Nat.{ℕ, _+_}
 use lib.Dec.{leb}
 use lib.ListN.{length, take, drop}
 use Rattle.answers.specs.Outcome.{Outcome, given, refused, refuseIf, andThen, numberOf}
-use Rattle.directory.specs.Directory.{Place, pair, countOf}
+use Rattle.directory.specs.Directory.{Place, pair, pairs, countOf}
 use Rattle.sheet.specs.declared.Opened.{Opened}
 use Rattle.sheet.specs.declared.Opened.the-variants.{Part, Refused}
 
@@ -32,3 +33,6 @@ partOf s start len = pickList (leb (start + len) (length s)) (take len (drop sta
 
 abbrev pub partAt : List ℕ → ℕ → List ℕ
 partAt s k = partOf s (pair s k .start) (pair s k .len)
+
+unfoldable pub parts : List ℕ → ℕ → ℕ → List (List ℕ)
+parts s i n = map (λ (p : Place). partOf s (p .start) (p .len)) (pairs s i n)

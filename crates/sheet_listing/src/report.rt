@@ -8,7 +8,7 @@ use geometry::SupportSet;
 use radius::Radius;
 use sheet_run::Ran;
 
-fn wide(n: u16) -> u64 {
+pub fn wide(n: u16) -> u64 {
     n as u64
 }
 

@@ -13,8 +13,10 @@ use native.Mathlib.Nat.{sub-zero}
 use native.Mathlib.Numerals.{add-one}
 use native.Mathlib.Omega.{arith}
 use lib.ListN.{length, take, drop, set, length-set}
-use lib.Seq.{take-suc-set, drop-set-lt, drop-drop}
+use lib.Seq.{take-suc-set, drop-set-lt}
 use Rattle.answers.specs.Outcome.{Outcome}
+use Rattle.answers.specs.Lent.{frontPut}
+use Rattle.answers.proofs.LentLaws.{front-kept, behind-stays}
 use Rattle.record_writer.specs.Layout.{recordLength}
 use Rattle.directory.specs.Directory.{count}
 use Rattle.sheet.specs.Sheet.{partAt}
@@ -25,8 +27,8 @@ use Rattle.run_steps.specs.Inner.{bare, Stepped}
 use Rattle.run_steps.specs.declared.Standing.{Standing}
 use Rattle.run_steps.proofs.Placing.{take-placed, drop-placed}
 use Rattle.run_steps.proofs.StepLaws.{step-onto, Long, step-long, step-most}
-use Rattle.sheet_run.specs.Running.{letters, ran, frontPut}
-use Rattle.sheet_run.proofs.Glyphs.{letters-next, letters-done, front-kept}
+use Rattle.sheet_run.specs.Running.{letters, ran}
+use Rattle.sheet_run.proofs.Glyphs.{letters-next, letters-done}
 
 abbrev pub state : Standing → List ℕ → List ℕ → ℕ → State
 state r b ns i = record { left = r .left; going = r .going; worked = r .worked; records = take (recordLength * r .worked) b; numbers = take i ns }
@@ -53,10 +55,6 @@ reached-first s n t b ns = record {
   places-stay = refl;
   same = ap (λ (m : ℕ). pass (letters s 0 m) (start t)) (sub-zero n);
 }
-
--- what is behind stays behind
-drop-more : (k m : ℕ) (l l₀ : List ℕ) → drop k l ≡ drop k l₀ → drop (k + m) l ≡ drop (k + m) l₀
-drop-more k m l l₀ e = sym (drop-drop m k l) ∙ ap (drop m) e ∙ drop-drop m k l₀
 
 -- ---- one glyph
 
@@ -97,7 +95,7 @@ module _ (o : Outcome Letter) (long : Long o) (q : Standing) (i : ℕ) (b after 
       subst (λ (k : ℕ). drop k after ≡ drop k b₀) end-is
       (ap (drop (end + length (added .records))) (h .after-is)
       ∙ drop-placed end (added .records) b inside
-      ∙ drop-more end (length (added .records)) b b₀ e)
+      ∙ behind-stays end b b₀ (length (added .records)) e)
 
 module _ {s : List ℕ} {n t : ℕ} {b₀ ns₀ b ns : List ℕ} {q : Standing} {i : ℕ} (z : Reached s n t b₀ ns₀ b ns q i) where
   pub reached-next : (after : List ℕ) (r : Standing) → i < n → n ≤ length ns₀ → recordLength * n ≤ length b₀ → length after ≡ length b
@@ -115,7 +113,7 @@ module _ {s : List ℕ} {n t : ℕ} {b₀ ns₀ b ns : List ℕ} {q : Standing} 
         buffer-length = size ∙ z .buffer-length;
         numbers-length = length-set ns i (r .number) ∙ z .numbers-length;
         bytes-stay = bytes-behind o long q i b after ns r h enough place b₀ (z .bytes-stay);
-        places-stay = drop-set-lt (i + 1) ns i (r .number) (omega arith) ∙ drop-more i 1 ns ns₀ (z .places-stay);
+        places-stay = drop-set-lt (i + 1) ns i (r .number) (omega arith) ∙ behind-stays i ns ns₀ 1 (z .places-stay);
         same =
             ap (pass (letters s (i + 1) (n - (i + 1)))) (sym (next-state o long q i b after ns r h enough place))
             ∙ ap (λ (os : List (Outcome Letter)). pass os (state q b ns i)) (sym (letters-next s i n below))

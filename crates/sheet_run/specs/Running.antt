@@ -5,17 +5,17 @@
 --   runOf s t b ns   == what a run of the sheet s with the allowance t, lent the buffer b and the list ns, comes to, or the refusal due first:
 --                       1, 6, then 8 if the buffer lacks a record's bytes for each glyph or the list a place, then 17 for 2⁶⁰ or more
 --   answerOf o       == how many were worked, and what is left of the allowance
---   frontPut new l   == the list l with the numbers new at its front, and the places behind as they were
 --   bufferBy o b, numbersBy o ns == what a run that comes to o leaves in the buffer and in the list; refused, what was there
 --   bufferAfter s t b ns, numbersAfter s t b ns == the buffer and the list afterwards
 --   outcome r        == the answer r as its two numbers, or its refusal's
-use mathlib.Core.List.{List, _++_, map}
+use mathlib.Core.List.{List, map}
 use Prim.Native.Nat.{ℕ, _*_, _^_}
 use lib.Dec.{leb, ltb}
-use lib.ListN.{length, drop}
+use lib.ListN.{length}
 use Rattle.answers.specs.Outcome.{Outcome, given, refused, numberOf, refuseIf, andThen}
-use Rattle.directory.specs.Directory.{Place, count, pairs, countOf}
-use Rattle.sheet.specs.Sheet.{partOf}
+use Rattle.answers.specs.Lent.{frontPut}
+use Rattle.directory.specs.Directory.{count, countOf}
+use Rattle.sheet.specs.Sheet.{parts}
 use Rattle.record_writer.specs.Layout.{recordLength}
 use Rattle.letter.specs.Letter.{Letter, letterOf}
 use Rattle.run_steps.specs.Steps.{State, start, pass}
@@ -23,7 +23,7 @@ use Rattle.sheet_run.specs.declared.Ran.{Ran}
 use Rattle.sheet_run.specs.declared.Ran.the-variants.{Done, Refused}
 
 unfoldable pub letters : List ℕ → ℕ → ℕ → List (Outcome Letter)
-letters s i n = map (λ (p : Place). letterOf (partOf s (p .start) (p .len))) (pairs s i n)
+letters s i n = map letterOf (parts s i n)
 
 abbrev pub ran : List ℕ → ℕ → State
 ran s t = pass (letters s 0 (count s)) (start t)
@@ -42,9 +42,6 @@ abbrev pub answerOf : Outcome State → Outcome (ℕ × ℕ)
 answerOf o = andThen o (λ s. given (s .worked, s .left))
 
 -- "Bytes and places behind the last written stay"
-abbrev pub frontPut : List ℕ → List ℕ → List ℕ
-frontPut new l = new ++ drop (length new) l
-
 abbrev pub bufferBy : Outcome State → List ℕ → List ℕ
 bufferBy (given s) b = frontPut (s .records) b
 bufferBy (refused n) b = b

@@ -138,6 +138,7 @@ fn run_case(call: u8, bytes: &[u8]) {
         b'X' => stretch_cases::run_stretch(bytes),
         b'A' => list_cases::run_append(bytes),
         b'G' => run_cases::run_allowed(bytes),
+        b'B' => estimate_cases::estimate_listed(bytes),
         b'S' => run_sheet(bytes),
         b'P' => run_part(bytes),
         b'R' => run_reader(bytes),

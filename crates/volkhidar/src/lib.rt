@@ -11,6 +11,7 @@ ghost use Rattle.traced_points.specs.Traced.{tracedOf};
 ghost use Rattle.hull_points.specs.Reducing as hull;
 ghost use Rattle.widest_stretch.specs.Stretching.{stretchOf};
 ghost use Rattle.sheet_run.specs.Running as runs;
+ghost use Rattle.sheet_estimate.specs.Estimating as estimates;
 ghost use Rattle.radius.specs.Radius.{radiusOf};
 ghost use Rattle.record_writer.specs.Writing as writer;
 ghost use Rattle.record_reader.specs.Reading.{readOf};
@@ -25,12 +26,14 @@ ghost use Rattle.c_disk.specs.Answer.{diskAnswer};
 ghost use Rattle.c_through.specs.Answer.{throughAnswer};
 ghost use Rattle.c_stretch.specs.Answer.{stretchAnswer};
 ghost use Rattle.c_run.specs.Answer.{runAnswer};
+ghost use Rattle.c_estimate.specs.Answer.{estimateAnswer};
 ghost use Rattle.c_radius.specs.Answer.{radiusAnswer};
 ghost use Rattle.c_preview.specs.Answer.{previewAnswer};
 ghost use Rattle.c_read.specs.Answer.{recordAnswer};
 ghost use Rattle.geometry.specs.Plane.{numbers};
 use c_append::KindAndValues;
 use c_disk::DiskAnswer;
+use c_estimate::EstimateAnswer;
 use c_glyph::GlyphAnswer;
 use c_load::LoadAnswer;
 use c_preview::PreviewAnswer;
@@ -161,4 +164,18 @@ pub extern "C" fn volkhidar_run_sheet(
     ensures { λ _. ⌜ now (list .exit) ≡ runs.numbersAfter (now (sheet .entry)) allowance (now (buf .entry)) (now (list .entry)) ⌝ }
 {
     c_run::run_sheet(sheet, allowance, buf, list)
+}
+
+// What a run of a sheet will take.
+#[no_mangle]
+pub extern "C" fn volkhidar_estimate_sheet(
+    sheet: &[u8],
+    points: &mut [u16],
+    refusals: &mut [u16],
+) -> EstimateAnswer
+    ensures { λ r. ⌜ r ≡ estimateAnswer (estimates.answerOf (estimates.estimateOf (now (sheet .entry)) (now (points .entry)) (now (refusals .entry)))) ⌝ }
+    ensures { λ _. ⌜ now (points .exit) ≡ estimates.pointsAfter (now (sheet .entry)) (now (points .entry)) (now (refusals .entry)) ⌝ }
+    ensures { λ _. ⌜ now (refusals .exit) ≡ estimates.refusalsAfter (now (sheet .entry)) (now (points .entry)) (now (refusals .entry)) ⌝ }
+{
+    c_estimate::estimate_sheet(sheet, points, refusals)
 }

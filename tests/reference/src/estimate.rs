@@ -57,11 +57,11 @@ fn small_sets(n: u128) -> u128 {
 pub(crate) mod tests {
     use super::*;
     use crate::edges::{self, sheet_of};
-    use crate::inputs::EstimateCase;
+    use crate::inputs::{EstimateCase, RunCase};
     use crate::limits::MOST_POINTS;
     use crate::procedure::most_tests;
     use crate::random::Random;
-    use crate::run::{needs, run_sheet, solve_each, SheetRun};
+    use crate::run::{needs, run_sheet, tests::Ran, SheetRun};
     use crate::worst;
 
     type Call = fn(&[u8], &mut [u16], &mut [u16]) -> Result<Estimate, Refusal>;
@@ -104,18 +104,11 @@ pub(crate) mod tests {
             Estimated::new(EstimateCase { points: count, refusals: count, sheet }).unwrap()
         }
 
-        /// What the sheet's glyphs need, each solved on its own.
-        fn need(&self) -> u64 {
-            needs(&solve_each(self.texts.iter().map(Vec::as_slice))).last().copied().unwrap_or(0)
-        }
-
-        /// A run of the sheet with so many tests, in a buffer with 60 bytes and a list with 2 places more than it needs: its answer, and what
-        /// the buffer and the list hold.
-        fn run(&self, allowance: u64) -> (SheetRun, Vec<u8>, Vec<u16>) {
+        /// A run of the sheet with so many tests, in a buffer with 60 bytes and a list with 2 places more than it needs.
+        fn run(&self, allowance: u64) -> Ran {
             let count = self.texts.len();
-            let (mut buffer, mut numbers) = (vec![238; 53 * count + 60], vec![12_321; count + 2]);
-            let run = run_sheet(&self.case.sheet, allowance, &mut buffer, &mut numbers).unwrap();
-            (run, buffer, numbers)
+            let case = RunCase { allowance, buffer: 53 * count + 60, numbers: count + 2, sheet: self.case.sheet.clone() };
+            Ran::new(case).expect("the run is not refused")
         }
     }
 
@@ -168,34 +161,33 @@ pub(crate) mod tests {
     fn a_run_with_the_sum_refuses_no_glyph_as_16_and_writes_that_many_bytes() {
         let mut with_less = 0;
         for estimated in estimates(2) {
-            let Estimated { estimate, ref texts, ref refusals, .. } = estimated;
-            let (run, buffer, numbers) = estimated.run(estimate.tests);
-            assert!(!numbers[..texts.len()].contains(&16));
-            assert_eq!(numbers[..texts.len()], refusals[..texts.len()]);
-            assert_eq!(53 * run.worked as u64, estimate.bytes);
-            assert!(buffer[53 * run.worked..].iter().all(|&byte| byte == 238));
-            assert_eq!(run.left, estimate.tests - estimated.need());
-            if let Some(less) = estimated.need().checked_sub(1) {
-                let (run, _, numbers) = estimated.run(less);
-                assert!(numbers.contains(&16) && 53 * (run.worked as u64) < estimate.bytes);
+            let (estimate, count) = (estimated.estimate, estimated.texts.len());
+            let ran = estimated.run(estimate.tests);
+            assert!(!ran.numbers.contains(&16));
+            assert_eq!(ran.numbers[..count], estimated.refusals[..count]);
+            assert_eq!(53 * ran.run.worked as u64, estimate.bytes);
+            assert!(ran.buffer[53 * ran.run.worked..].iter().all(|&byte| byte == 238));
+            let need = needs(&ran.alone).last().copied().unwrap_or(0);
+            assert_eq!(ran.run.left, estimate.tests - need);
+            if let Some(less) = need.checked_sub(1) {
+                assert!(estimated.run(less).numbers.contains(&16));
                 with_less += 1;
             }
         }
         assert!(with_less > 500, "{with_less}");
     }
 
-    /// Each acceptable glyph has its record where the estimate has its bytes: the buffer is filled from its front on.
+    /// Two buffers that differ everywhere before the run have just so many bytes in common after it.
     #[test]
-    fn the_bytes_of_the_run_are_all_written() {
-        for estimated in estimates(3) {
-            let filled = |fill: u8| {
-                let mut buffer = vec![fill; 53 * estimated.texts.len()];
-                let mut numbers = vec![0; estimated.texts.len()];
-                run_sheet(&estimated.case.sheet, estimated.estimate.tests, &mut buffer, &mut numbers).unwrap();
+    fn exactly_that_many_bytes_are_written() {
+        for Estimated { case, texts, estimate, .. } in estimates(3) {
+            let [one, other] = [1, 2].map(|byte| {
+                let (mut buffer, mut numbers) = (vec![byte; 53 * texts.len()], vec![0; texts.len()]);
+                run_sheet(&case.sheet, estimate.tests, &mut buffer, &mut numbers).unwrap();
                 buffer
-            };
-            let differ = filled(1).into_iter().zip(filled(2)).filter(|(one, two)| one != two).count();
-            assert_eq!((filled(1).len() - differ) as u64, estimated.estimate.bytes);
+            });
+            let written = one.iter().zip(&other).filter(|(one, other)| one == other).count();
+            assert_eq!(written as u64, estimate.bytes);
         }
     }
 
@@ -207,8 +199,8 @@ pub(crate) mod tests {
         assert!(lists.iter().map(Vec::len).max() >= Some(5), "{:?}", lists.iter().map(Vec::len).collect::<Vec<_>>());
         let estimated = Estimated::of_sheet(sheet::packed(lists.iter().map(|points| description::describe(points))));
         let tests = estimated.estimate.tests;
-        assert_eq!((estimated.run(tests).0.left, estimated.run(tests).0.worked), (0, lists.len()));
-        assert_eq!(estimated.run(tests - 1).2.iter().filter(|number| **number == 16).count(), 1);
+        assert_eq!(estimated.run(tests).run, SheetRun { worked: lists.len(), left: 0 });
+        assert_eq!(estimated.run(tests - 1).run.worked, lists.len() - 1);
     }
 
     #[test]
@@ -265,7 +257,7 @@ pub(crate) mod tests {
             assert!(sheet.len() > 65_528 && tests < 1 << 60);
             let estimated = Estimated::of_sheet(sheet);
             assert_eq!(estimated.estimate, Estimate { bytes, tests });
-            assert_eq!(53 * estimated.run(tests).0.worked as u64, bytes);
+            assert_eq!(53 * estimated.run(tests).run.worked as u64, bytes);
         }
         assert!(16_383 * small_sets(4_096) < 1 << 60, "as many glyphs as a directory has pairs for, each with the most points");
     }

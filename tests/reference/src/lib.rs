@@ -19,7 +19,7 @@
 //! | [`engine`] | the disk engine: checks, then the four answers |
 //! | [`description`] | the loader |
 //! | [`drawing`] | points from a drawing program (document 02, item 2) |
-//! | [`sheet`] | the sheet opener |
+//! | [`sheet`] | the sheet opener, and drawn sheets to be run or estimated |
 //! | [`run`] | a whole sheet worked under one allowance of tests (document 02, item 12), and drawn sheets for it |
 //! | [`estimate`] | what a sheet will take, with no disk worked out (document 02, item 13), and drawn sheets for it |
 //! | [`belonging`] | whether points belong to a disk (document 02, item 9), by its words |

@@ -7,7 +7,8 @@ use borrow.Author.Needs.{needs}
 use Rattle.answers.specs.Outcome.{given, refused}
 use Rattle.geometry.specs.Plane.{numbers, members}
 use Rattle.engine.specs.Engine.{Enclosure, outcome}
-use Rattle.letter.specs.Letter.{room, letter, letterOf, enclosureOf}
+use Rattle.description.specs.Description.{room}
+use Rattle.letter.specs.Letter.{letter, letterOf, enclosureOf}
 use Rattle.letter.proofs.Whole.{letter-enclosed, letter-unenclosed, enclosure-checked}
 use Rattle.run_steps.proofs.StepLaws.{stepped-letter, stepped-number, stepped-worked, stepped-over, stepped-faulty}
 use Rattle.run_steps.proofs.work_glyph.Statement.{statement}

@@ -29,11 +29,11 @@ enum-known-n c = search needs
 array-share-prefix-sheet : tie.Need-array-share-prefix-sheet
 array-share-prefix-sheet c = within c
 
-slice-aggregate-print-sheet : tie.Need-slice-aggregate-print-sheet
-slice-aggregate-print-sheet c = sym (length-take-le _ _ (within (c .before)))
+slice-aggregate-print : tie.Need-slice-aggregate-print
+slice-aggregate-print c = sym (length-take-le _ _ (within (c .before)))
 
-print-sheet-requires : tie.Need-print-sheet-requires
-print-sheet-requires c κs = search needs
+print-requires : tie.Need-print-requires
+print-requires c κs = search needs
 
 enum-told : tie.Need-enum-told
 enum-told c = search needs
@@ -59,8 +59,8 @@ list-spec =
     read-all-requires
     enum-known-n
     array-share-prefix-sheet
-    slice-aggregate-print-sheet
-    print-sheet-requires
+    slice-aggregate-print
+    print-requires
     enum-told
     slice-aggregate-fail
     fail-requires

@@ -50,10 +50,13 @@ fn rooms() -> impl Iterator<Item = Estimating> {
     ROOMS.into_iter().flat_map(move |(says, rows)| rows.iter().flat_map(move |row| edges(says, row)))
 }
 
-/// Sheets of many glyphs, all of them the same: which, how many, the lengths of both lists, and what a glyph takes, or a refusal.
+/// A glyph, how many of it, the lengths of both lists, and what each of them takes, or a refusal.
+type ManyRow = (&'static str, usize, [usize; 2], Answer<(u16, u16, u64, u64)>);
+
+/// Sheets of many glyphs, all of them the same.
 fn many() -> impl Iterator<Item = Estimating> {
     let (one, none) = ((1, 0, 53, 1), (0, 5, 0, 0));
-    let rows: [(&str, usize, [usize; 2], Answer<(u16, u16, u64, u64)>); 14] = [
+    let rows: [ManyRow; 14] = [
         ("a", 255, [255, 255], Ok(one)),
         ("a", 256, [256, 256], Ok(one)),
         ("a", 257, [257, 257], Ok(one)),

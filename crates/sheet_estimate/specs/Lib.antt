@@ -1,0 +1,3 @@
+pub mod Estimating
+-- of inner contracts
+pub mod Shares
