@@ -1,8 +1,9 @@
-// Times the run of a sheet beside single calls on the same glyphs and prints a table.
+// Times the run of a sheet and its estimate beside single calls on the same glyphs and prints a table of each.
 //
 //   sheet OUTLINES        OUTLINES is data/dejavu-serif.outlines
 //
-// All take turns, round by round; a time is the least of the rounds, for one glyph. All must write the same records and numbers.
+// All take turns, round by round; a time is the least of the rounds, for one glyph. All must write the same records and numbers, and
+// find the same counts of points and the same sum of tests.
 #include <cstdio>
 #include <cstdlib>
 #include <functional>
@@ -63,8 +64,9 @@ Sheet laid(size_t most, const std::function<std::string(size_t)>& text) {
     return sheet;
 }
 
+// With what is left as the allowance.
 void run(const Sheet& sheet, Lent& lent) {
-    volkhidar_run_answer ran = volkhidar_run_sheet(sheet.bytes.data(), sheet.bytes.size(), VOLKHIDAR_MOST_ALLOWANCE, lent.buffer.data(),
+    volkhidar_run_answer ran = volkhidar_run_sheet(sheet.bytes.data(), sheet.bytes.size(), lent.left, lent.buffer.data(),
                                                    lent.buffer.size(), lent.numbers.data(), lent.numbers.size());
     lent.worked = ran.worked;
     lent.left = ran.left;
@@ -113,13 +115,31 @@ constexpr Way WAYS[] = {{"run", run}, {"(a)", work_each}, {"(b)", record_each}, 
 
 constexpr size_t COUNT = sizeof WAYS / sizeof WAYS[0];
 
-void require_same(const Lent& ours, const Lent& theirs, const char* way, const char* name) {
-    if (ours.worked == theirs.worked && ours.buffer == theirs.buffer && ours.numbers == theirs.numbers) return;
-    std::fprintf(stderr, "%s and %s differ on %s\n", WAYS[0].name, way, name);
+void require(bool is_same, const char* one, const char* other, const char* name) {
+    if (is_same) return;
+    std::fprintf(stderr, "%s and %s differ on %s\n", one, other, name);
     std::exit(1);
 }
 
-void compare(const char* name, const Sheet& sheet) {
+// The head of a table: the times of all ways, and the first by each of the others.
+void print_head(const std::vector<const char*>& ways) {
+    std::printf("| glyphs | how many | bytes of the sheet |");
+    for (const char* way : ways) std::printf(" %s, µs a glyph |", way);
+    for (size_t k = 1; k < ways.size(); k++) std::printf(" %s by %s |", ways[0], ways[k]);
+    std::printf("\n|---|---|---|");
+    for (size_t k = 1; k < 2 * ways.size(); k++) std::printf("---|");
+    std::printf("\n");
+}
+
+void print_row(const char* name, const Sheet& sheet, const std::vector<double>& times) {
+    std::printf("| %s | %zu | %zu |", name, sheet.count, sheet.bytes.size());
+    for (double time : times) std::printf(" %.3g |", time * 1e6);
+    for (size_t k = 1; k < times.size(); k++) std::printf(" %.2f |", times[0] / times[k]);
+    std::printf("\n");
+    std::fflush(stdout);
+}
+
+void compare_runs(const char* name, const Sheet& sheet) {
     std::vector<Lent> lent(COUNT, Lent(sheet.count));
     std::vector<Turn> turns;
     for (size_t k = 0; k < COUNT; k++) {
@@ -130,14 +150,68 @@ void compare(const char* name, const Sheet& sheet) {
         turns.push_back({prepare, [&, k] { WAYS[k].call(sheet, lent[k]); }});
     }
     std::vector<double> times = take_turns(ROUNDS, sheet.count, turns);
-    std::printf("| %s | %zu | %zu |", name, sheet.count, sheet.bytes.size());
-    for (size_t k = 0; k < COUNT; k++) {
-        require_same(lent[0], lent[k], WAYS[k].name, name);
-        std::printf(" %.3g |", times[k] * 1e6);
+    for (size_t k = 1; k < COUNT; k++) {
+        bool is_same = lent[0].worked == lent[k].worked && lent[0].buffer == lent[k].buffer && lent[0].numbers == lent[k].numbers;
+        require(is_same, WAYS[0].name, WAYS[k].name, name);
     }
-    for (size_t k = 1; k < COUNT; k++) std::printf(" %.2f |", times[0] / times[k]);
-    std::printf("\n");
-    std::fflush(stdout);
+    print_row(name, sheet, times);
+}
+
+// What a sheet will take.
+struct Estimated {
+    std::vector<uint16_t> points, refusals;
+    uint64_t bytes = 0, tests = 0;
+
+    explicit Estimated(size_t count) : points(count), refusals(count) {}
+    bool operator==(const Estimated& other) const {
+        return points == other.points && refusals == other.refusals && bytes == other.bytes && tests == other.tests;
+    }
+};
+
+void estimate(const Sheet& sheet, Estimated& all) {
+    volkhidar_estimate_answer answer = volkhidar_estimate_sheet(sheet.bytes.data(), sheet.bytes.size(), all.points.data(),
+                                                                all.points.size(), all.refusals.data(), all.refusals.size());
+    all.bytes = answer.bytes;
+    all.tests = answer.tests;
+}
+
+struct Part {
+    const uint8_t* text;
+    size_t length;
+};
+
+std::vector<Part> parts_of(const Sheet& sheet) {
+    std::vector<Part> parts;
+    for (size_t k = 0; k < sheet.count; k++)
+        parts.push_back({sheet.bytes.data() + number_at(sheet.bytes, 2 + 4 * k), number_at(sheet.bytes, 4 + 4 * k)});
+    return parts;
+}
+
+// The loader on each glyph, with one list for all of them.
+void load_each(const std::vector<Part>& parts, std::vector<int16_t>& list, Estimated& all) {
+    all.bytes = all.tests = 0;
+    for (size_t k = 0; k < parts.size(); k++) {
+        volkhidar_load_answer loaded = volkhidar_load(parts[k].text, parts[k].length, list.data(), list.size());
+        uint64_t n = loaded.count;
+        all.points[k] = uint16_t(n);
+        all.refusals[k] = uint16_t(loaded.refusal);
+        if (loaded.refusal == 0) all.bytes += VOLKHIDAR_RECORD_LENGTH;
+        all.tests += (n * n * n + 5 * n) / 6;
+    }
+}
+
+// The estimate, the loader on glyphs that were found beforehand, and the run with the estimate as its allowance.
+void compare_estimates(const char* name, const Sheet& sheet) {
+    std::vector<Part> parts = parts_of(sheet);
+    Estimated ours(sheet.count), theirs(sheet.count);
+    Lent ran(sheet.count);
+    std::vector<double> times = take_turns(ROUNDS, sheet.count,
+                                           {{[] {}, [&] { estimate(sheet, ours); }},
+                                            {[] {}, [&] { load_each(parts, ran.list, theirs); }},
+                                            {[&] { ran.left = ours.tests; }, [&] { run(sheet, ran); }}});
+    require(ours == theirs, "estimate", "loads", name);
+    require(ran.numbers == ours.refusals && ran.worked * VOLKHIDAR_RECORD_LENGTH == ours.bytes, "estimate", "run", name);
+    print_row(name, sheet, times);
 }
 
 constexpr const char* LETTERS[] = {"0 0\n",
@@ -157,6 +231,24 @@ Sheet drawn(Kind kind, size_t n) {
     return laid(VOLKHIDAR_MOST_GLYPHS, [=](size_t k) { return described(draw(kind, n, k), PLAIN); });
 }
 
+struct Named {
+    const char* name;
+    Sheet sheet;
+};
+
+std::vector<Named> sheets() {
+    return {{"empty", laid(VOLKHIDAR_MOST_GLYPHS, [](size_t) { return std::string(); })},
+            {"the point 0 0", laid(VOLKHIDAR_MOST_GLYPHS, [](size_t) { return std::string("0 0"); })},
+            {"1 point", drawn(Kind::Wider, 1)},
+            {"3 points", drawn(Kind::Wider, 3)},
+            {"letters A to K", laid(VOLKHIDAR_MOST_GLYPHS, [](size_t k) { return std::string(LETTERS[k % 11]); })},
+            {"outlines of 10 points", drawn(Kind::Outline, 10)},
+            {"outlines of 30 points", drawn(Kind::Outline, 30)},
+            {"outlines of 100 points", drawn(Kind::Outline, 100)},
+            {"outlines of 1,000 points", drawn(Kind::Outline, 1000)},
+            {"uniform, 4,096 points", drawn(Kind::Uniform, 4096)}};
+}
+
 }  // namespace
 
 int main(int argc, char** argv) {
@@ -164,18 +256,12 @@ int main(int argc, char** argv) {
         std::fprintf(stderr, "no outlines: sheet OUTLINES\n");
         return 1;
     }
-    std::printf("| glyphs | how many | bytes of the sheet |");
-    for (const Way& way : WAYS) std::printf(" %s, µs a glyph |", way.name);
-    for (size_t k = 1; k < COUNT; k++) std::printf(" %s by %s |", WAYS[0].name, WAYS[k].name);
-    std::printf("\n|---|---|---|---|---|---|---|---|---|---|\n");
-    compare("empty", laid(VOLKHIDAR_MOST_GLYPHS, [](size_t) { return std::string(); }));
-    compare("the point 0 0", laid(VOLKHIDAR_MOST_GLYPHS, [](size_t) { return std::string("0 0"); }));
-    compare("1 point", drawn(Kind::Wider, 1));
-    compare("3 points", drawn(Kind::Wider, 3));
-    compare("letters A to K", laid(VOLKHIDAR_MOST_GLYPHS, [](size_t k) { return std::string(LETTERS[k % 11]); }));
-    compare("outlines of 10 points", drawn(Kind::Outline, 10));
-    compare("outlines of 30 points", drawn(Kind::Outline, 30));
-    compare("outlines of 100 points", drawn(Kind::Outline, 100));
-    compare("outlines of 1,000 points", drawn(Kind::Outline, 1000));
-    compare("uniform, 4,096 points", drawn(Kind::Uniform, 4096));
+    const std::vector<Named> all = sheets();
+    std::vector<const char*> ways;
+    for (const Way& way : WAYS) ways.push_back(way.name);
+    print_head(ways);
+    for (const Named& one : all) compare_runs(one.name, one.sheet);
+    std::printf("\n");
+    print_head({"estimate", "loads", "run"});
+    for (const Named& one : all) compare_estimates(one.name, one.sheet);
 }

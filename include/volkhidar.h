@@ -27,7 +27,7 @@
  *                  7   a record of another length than 53 or 45 bytes, with another count than its points have, or not valid;
  *                      a disk and support set that a valid record of 53 bytes could not hold
  *                  8   a list under 8,192 numbers; a buffer under 53 bytes; for the run of a sheet, a buffer under 53 bytes for each
- *                      glyph or a list under one place for each
+ *                      glyph or a list under one place for each; for its estimate, a list under one place for each glyph
  *                  9   a point list of odd length; a list of traced points whose length is not a multiple of three
  *                 10   glyph number not below the count
  *                 11   a NaN, an infinity or a float with a fraction in a point's x or y
@@ -178,6 +178,11 @@ typedef struct {
     uint64_t worked, left;
 } volkhidar_run_answer;
 
+typedef struct {
+    uint64_t refusal;
+    uint64_t bytes, tests;
+} volkhidar_estimate_answer;
+
 /*
  * Reads a description: a point a line, "x y" in decimal, each number of 1 to 4 digits with one plus, one minus or no sign before
  * them. The points go to the front of `list` in the order of the lines, x and y by turns; the rest of the list stays. `count` is how
@@ -297,12 +302,24 @@ uint64_t volkhidar_record_of(const uint8_t *text, size_t text_length, uint8_t *b
  * behind that glyph no disk is worked out.
  * So the counts of the worked glyphs and `left` make the allowance, and a larger one never changes a glyph that had its record.
  * A sheet's first two bytes, high byte first, are its count of glyphs, at most 16,383: a buffer of 53 * count bytes and a list of count
- * places always do.
+ * places always do. volkhidar_estimate_sheet gives an allowance that is enough for every glyph.
  * Refusals, in this order: 1; 6; 8 for a buffer under 53 bytes for each glyph, be it faulty or not, or a list under one place for each; 17
  * for an allowance of 2^60 or more.
  */
 volkhidar_run_answer volkhidar_run_sheet(const uint8_t *sheet, size_t sheet_length, uint64_t allowance, uint8_t *buffer,
                                          size_t buffer_length, uint16_t *numbers, size_t numbers_length);
+
+/*
+ * What a run of a sheet will take, from its descriptions alone: no disk is worked out. `points` gets for each glyph how many points its
+ * description has, 0 where volkhidar_load refuses it, and `refusals` that refusal (2, 3, 4 or 5), or 0. Places behind the last glyph
+ * stay. `bytes` is how many bytes the records of all acceptable descriptions make, 53 each. `tests` is the sum of (n^3 + 5n) / 6 over
+ * the same descriptions, each of n points, which never take more; the sum is always below 2^60.
+ * A run with `tests` as its allowance gives no glyph 16 and writes `bytes` bytes; its numbers are those of `refusals`. Its buffer may
+ * have to be longer: volkhidar_run_sheet asks for 53 bytes for every glyph, the faulty ones too.
+ * Refusals, in this order: 1; 6; 8 for a list under one place for each glyph.
+ */
+volkhidar_estimate_answer volkhidar_estimate_sheet(const uint8_t *sheet, size_t sheet_length, uint16_t *points, size_t points_length,
+                                                   uint16_t *refusals, size_t refusals_length);
 
 #ifdef __cplusplus
 }

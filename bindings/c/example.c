@@ -2,7 +2,7 @@
  * The way of a letter through the library: a description is read, its smallest disk worked out, and a record written and read back.
  * Then the same letter from a drawing program's own values, another letter's disk turned against a stop, a hand-traced letter, a
  * scanned outline that is reduced to its hull, a letter's widest stretch, a damaged record, a disk whose s is above 2^64, a record of
- * 45 bytes that is written again with 53, and a sheet that is run under an allowance.
+ * 45 bytes that is written again with 53, and a sheet: what it will take, and a run of it under an allowance.
  *
  *   bindings/c/run      builds and runs it on letter F of the papers
  *   bindings/c/run -    reads a description from standard input
@@ -20,6 +20,7 @@ static const char wide_letter[] = "0 -512\n2048 -509\n1 1536\n";
 /* The count and the pairs of offset and length, then four glyphs: a point, a fault, letter F and a point. */
 static const char sheet[] = "\x00\x04" "\x00\x12\x00\x04" "\x00\x16\x00\x02" "\x00\x18\x00\x0c" "\x00\x24\x00\x04"
                             "0 0\n" "x\n" "0 0\n4 0\n2 3\n" "7 7\n";
+enum { GLYPHS = 4 };
 
 static int refused(uint64_t refusal) {
     printf("refused %" PRIu64 "\n", refusal);
@@ -51,6 +52,13 @@ static int is_same_disk(const volkhidar_disk *c, const volkhidar_disk *d) {
 static void print_record(const uint8_t *record) {
     printf("record ");
     for (size_t i = 0; i < VOLKHIDAR_RECORD_LENGTH; i++) printf("%02x", record[i]);
+    printf("\n");
+}
+
+/* A number for each glyph of the sheet. */
+static void print_numbers(const char *name, const uint16_t *numbers) {
+    printf("%s", name);
+    for (int k = 0; k < GLYPHS; k++) printf(" %d", numbers[k]);
     printf("\n");
 }
 
@@ -187,21 +195,31 @@ static int write_old_record_again(void) {
     return 0;
 }
 
+/* Before the sheet is run: nine tests are enough, one for each of the points and 7 for letter F. */
+static int estimate_sheet(void) {
+    uint16_t points[GLYPHS], refusals[GLYPHS];
+    const uint8_t *bytes = (const uint8_t *)sheet;
+    volkhidar_estimate_answer estimate = volkhidar_estimate_sheet(bytes, sizeof sheet - 1, points, GLYPHS, refusals, GLYPHS);
+    if (estimate.refusal) return refused(estimate.refusal);
+    print_numbers("points", points);
+    print_numbers("refusals", refusals);
+    printf("bytes %" PRIu64 "\ntests %" PRIu64 "\n", estimate.bytes, estimate.tests);
+    return 0;
+}
+
 /* With 8 tests: the first point takes one and letter F the other 7, so that the point behind it gets 16. 2^60 tests are refused. */
 static int run_sheet(void) {
-    enum { COUNT = 4 };
-    uint8_t buffer[COUNT * VOLKHIDAR_RECORD_LENGTH];
-    uint16_t numbers[COUNT];
+    uint8_t buffer[GLYPHS * VOLKHIDAR_RECORD_LENGTH];
+    uint16_t numbers[GLYPHS];
     const uint8_t *bytes = (const uint8_t *)sheet;
-    volkhidar_run_answer run = volkhidar_run_sheet(bytes, sizeof sheet - 1, 8, buffer, sizeof buffer, numbers, COUNT);
+    volkhidar_run_answer run = volkhidar_run_sheet(bytes, sizeof sheet - 1, 8, buffer, sizeof buffer, numbers, GLYPHS);
     if (run.refusal) return refused(run.refusal);
-    printf("numbers");
-    for (int k = 0; k < COUNT; k++) printf(" %d", numbers[k]);
-    printf("\nworked %" PRIu64 "\nleft %" PRIu64 "\n", run.worked, run.left);
+    print_numbers("numbers", numbers);
+    printf("worked %" PRIu64 "\nleft %" PRIu64 "\n", run.worked, run.left);
     for (uint64_t i = 0; i < run.worked; i++) print_record(buffer + i * VOLKHIDAR_RECORD_LENGTH);
 
     uint64_t too_much = VOLKHIDAR_MOST_ALLOWANCE + 1;
-    refused(volkhidar_run_sheet(bytes, sizeof sheet - 1, too_much, buffer, sizeof buffer, numbers, COUNT).refusal);
+    refused(volkhidar_run_sheet(bytes, sizeof sheet - 1, too_much, buffer, sizeof buffer, numbers, GLYPHS).refusal);
     return 0;
 }
 
@@ -213,5 +231,6 @@ int main(int argc, char **argv) {
     }
     return work_out((const uint8_t *)letter_f, sizeof letter_f - 1) || work_out_drawing() || work_out_against_stop() ||
            work_out_traced() || work_out_hull() || work_out_stretch() || read_damaged_record() ||
-           work_out((const uint8_t *)wide_letter, sizeof wide_letter - 1) || write_old_record_again() || run_sheet();
+           work_out((const uint8_t *)wide_letter, sizeof wide_letter - 1) || write_old_record_again() || estimate_sheet() ||
+           run_sheet();
 }

@@ -31,8 +31,8 @@ mod sheets;
 
 pub use raw::Point;
 pub use refusal::Refusal;
-pub use shapes::{Chosen, Disk, DrawnPoint, Enclosed, Preview, SheetRun, Stretch, SupportSet};
-pub use sheets::{glyph, run_sheet};
+pub use shapes::{Chosen, Disk, DrawnPoint, Enclosed, Preview, SheetEstimate, SheetRun, Stretch, SupportSet};
+pub use sheets::{estimate_sheet, glyph, run_sheet};
 
 use refusal::checked;
 

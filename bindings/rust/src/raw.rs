@@ -104,6 +104,13 @@ pub struct RunAnswer {
     pub left: u64,
 }
 
+#[repr(C)]
+pub struct EstimateAnswer {
+    pub refusal: u64,
+    pub bytes: u64,
+    pub tests: u64,
+}
+
 extern "C" {
     pub fn volkhidar_load(text: *const u8, text_length: usize, list: *mut i16, list_length: usize) -> LoadAnswer;
     pub fn volkhidar_append_point(point: DrawnPoint, list: *mut i16, list_length: usize, n: usize) -> LoadAnswer;
@@ -127,6 +134,14 @@ extern "C" {
         numbers: *mut u16,
         numbers_length: usize,
     ) -> RunAnswer;
+    pub fn volkhidar_estimate_sheet(
+        sheet: *const u8,
+        sheet_length: usize,
+        points: *mut u16,
+        points_length: usize,
+        refusals: *mut u16,
+        refusals_length: usize,
+    ) -> EstimateAnswer;
 }
 
 #[cfg(test)]
@@ -261,12 +276,17 @@ mod tests {
         }
     }
 
-    /// A sheet of one glyph, the point (0, 0), and runs of it: too long, without its last byte, without a byte of the buffer or the one
-    /// place of the list, with one test too many.
-    #[test]
-    fn a_refused_run_holds_nothing_else() {
+    /// A sheet of one glyph, the point (0, 0), in its first 9 bytes, and a gap that makes it a byte too long.
+    fn long_sheet() -> [u8; 65_536] {
         let mut sheet = [0; 65_536];
         sheet[..9].copy_from_slice(b"\x00\x01\x00\x06\x00\x030 0");
+        sheet
+    }
+
+    /// Runs of a sheet: too long, without its last byte, without a byte of the buffer or the one place of the list, with one test too many.
+    #[test]
+    fn a_refused_run_holds_nothing_else() {
+        let sheet = long_sheet();
         let (mut buffer, mut numbers) = ([0xEE; 53], [0xEEEE]);
         let mut run = |length, allowance, room, places| {
             let (written, listed) = (buffer.as_mut_ptr(), numbers.as_mut_ptr());
@@ -280,5 +300,23 @@ mod tests {
         assert_eq!(run(9, 1 << 60, 53, 1), (17, 0, 0));
         assert_eq!(run(9, 7, 53, 1), (0, 1, 6));
         assert_eq!((buffer[52], numbers), (1, [0]));
+    }
+    /// Estimates of the sheet: too long, without its last byte, without the one place of a list.
+    #[test]
+    fn a_refused_estimate_holds_nothing_else() {
+        let sheet = long_sheet();
+        let (mut points, mut refusals) = ([0xEEEE], [0xEEEE]);
+        let mut estimate = |length, points_length, refusals_length| {
+            let (counted, listed) = (points.as_mut_ptr(), refusals.as_mut_ptr());
+            let answer =
+                unsafe { volkhidar_estimate_sheet(sheet.as_ptr(), length, counted, points_length, listed, refusals_length) };
+            (answer.refusal, answer.bytes, answer.tests)
+        };
+        assert_eq!(estimate(65_536, 1, 1), (1, 0, 0));
+        assert_eq!(estimate(8, 1, 1), (6, 0, 0));
+        assert_eq!(estimate(9, 0, 1), (8, 0, 0));
+        assert_eq!(estimate(9, 1, 0), (8, 0, 0));
+        assert_eq!(estimate(9, 1, 1), (0, 53, 1));
+        assert_eq!((points, refusals), ([1], [0]));
     }
 }

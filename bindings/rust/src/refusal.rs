@@ -20,7 +20,7 @@ pub enum Refusal {
     /// that a valid record of 53 bytes could not hold.
     BadRecord = 7,
     /// A list under 8,192 numbers; a buffer under 53 bytes; for [`run_sheet`](crate::run_sheet), a buffer under 53 bytes for each glyph or
-    /// a list under one place for each.
+    /// a list under one place for each; for [`estimate_sheet`](crate::estimate_sheet), a list under one place for each glyph.
     NoRoom = 8,
     /// A point list of odd length; a list of traced points whose length is not a multiple of three.
     OddLength = 9,
@@ -69,7 +69,8 @@ impl Refusal {
         self as u8
     }
 
-    /// The refusal of a number, as [`run_sheet`](crate::run_sheet) puts it into its list; none of 0 and of numbers that no refusal has.
+    /// The refusal of a number, as [`run_sheet`](crate::run_sheet) and [`estimate_sheet`](crate::estimate_sheet) put it into a list; none of
+    /// 0 and of numbers that no refusal has.
     ///
     /// ```
     /// use volkhidar::Refusal;

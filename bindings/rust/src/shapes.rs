@@ -148,6 +148,15 @@ pub struct SheetRun {
     pub left: u64,
 }
 
+/// What [`estimate_sheet`](crate::estimate_sheet) answers beside the lists that it fills.
+#[derive(Clone, Copy, PartialEq, Eq, Hash, Debug)]
+pub struct SheetEstimate {
+    /// How many bytes the records of all acceptable descriptions make.
+    pub bytes: usize,
+    /// An allowance of tests that is enough for all of them: the sum of (n³ + 5n) / 6 for n points, always below 2⁶⁰.
+    pub tests: u64,
+}
+
 /// The centre and the whole radius as floats.
 #[derive(Clone, Copy, PartialEq, Debug)]
 pub struct Preview {

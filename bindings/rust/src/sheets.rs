@@ -2,7 +2,7 @@
 
 use crate::raw;
 use crate::refusal::{checked, Refusal};
-use crate::shapes::SheetRun;
+use crate::shapes::{SheetEstimate, SheetRun};
 use std::ops::Range;
 
 /// Finds part k of a sheet, from 0.
@@ -37,7 +37,7 @@ pub fn glyph(sheet: &[u8], k: usize) -> Result<Range<usize>, Refusal> {
 /// left make the allowance, and a larger one never changes a glyph that had its record.
 ///
 /// A sheet's first two bytes, high byte first, are its count of glyphs, at most [`MOST_GLYPHS`](crate::MOST_GLYPHS): a buffer of 53 times
-/// as many bytes and a list of as many places always do.
+/// as many bytes and a list of as many places always do. [`estimate_sheet`] gives an allowance that is enough for every glyph.
 ///
 /// Refuses, in this order: [`Refusal::TooLong`], [`Refusal::BadSheet`]; [`Refusal::NoRoom`] for a buffer under 53 bytes for each glyph, be
 /// it faulty or not, or a list under one place for each; [`Refusal::TooMuch`] for an allowance above
@@ -70,4 +70,42 @@ pub fn run_sheet(sheet: &[u8], allowance: u64, buffer: &mut [u8], numbers: &mut 
         unsafe { raw::volkhidar_run_sheet(sheet.as_ptr(), sheet.len(), allowance, written, buffer.len(), listed, numbers.len()) };
     checked(answer.refusal)?;
     Ok(SheetRun { worked: answer.worked as usize, left: answer.left })
+}
+
+/// What a run of a sheet will take, from its descriptions alone: no disk is worked out. The list `points` gets for each glyph how many
+/// points its description has, 0 where [`load`](crate::load) refuses it, and the list `refusals` the number of that refusal
+/// ([`Refusal::from_number`]), or 0. Places behind the last glyph stay. The answer has how many bytes the records of all acceptable
+/// descriptions make, and the sum of (n³ + 5n) / 6 over the same descriptions, each of n points, which never take more tests.
+///
+/// A run with this sum as its allowance gives no glyph 16 ([`Refusal::NotAllowed`]) and writes so many bytes; its numbers are those of
+/// `refusals`. Its buffer may have to be longer: [`run_sheet`] asks for [`RECORD_LENGTH`](crate::RECORD_LENGTH) bytes for every glyph, the
+/// faulty ones too.
+///
+/// Refuses, in this order: [`Refusal::TooLong`], [`Refusal::BadSheet`]; [`Refusal::NoRoom`] for a list under one place for each glyph.
+///
+/// ```
+/// use volkhidar::{estimate_sheet, run_sheet, Refusal, SheetEstimate, SheetRun, RECORD_LENGTH};
+///
+/// // a point, a fault, letter G, which takes 4 tests where three points can take 7, and a point
+/// let directory = [0, 4, 0, 18, 0, 4, 0, 22, 0, 2, 0, 24, 0, 13, 0, 37, 0, 4];
+/// let sheet = [&directory[..], b"0 0\n", b"x\n", b"0 0\n10 0\n5 1\n", b"7 7\n"].concat();
+/// let (mut points, mut refusals) = ([0; 4], [0; 4]);
+///
+/// let estimate = estimate_sheet(&sheet, &mut points, &mut refusals)?;
+/// assert_eq!(estimate, SheetEstimate { bytes: 3 * RECORD_LENGTH, tests: 1 + 7 + 1 });
+/// assert_eq!((points, refusals), ([1, 0, 3, 1], [0, 2, 0, 0]));
+///
+/// let (mut buffer, mut numbers) = ([0; 4 * RECORD_LENGTH], [0; 4]);
+/// assert_eq!(run_sheet(&sheet, estimate.tests, &mut buffer, &mut numbers), Ok(SheetRun { worked: 3, left: 3 }));
+/// assert_eq!(numbers, refusals);
+///
+/// assert_eq!(estimate_sheet(&sheet, &mut points[..3], &mut refusals), Err(Refusal::NoRoom));
+/// # Ok::<(), Refusal>(())
+/// ```
+pub fn estimate_sheet(sheet: &[u8], points: &mut [u16], refusals: &mut [u16]) -> Result<SheetEstimate, Refusal> {
+    let (counted, listed) = (points.as_mut_ptr(), refusals.as_mut_ptr());
+    let answer =
+        unsafe { raw::volkhidar_estimate_sheet(sheet.as_ptr(), sheet.len(), counted, points.len(), listed, refusals.len()) };
+    checked(answer.refusal)?;
+    Ok(SheetEstimate { bytes: answer.bytes as usize, tests: answer.tests })
 }

@@ -5,7 +5,9 @@ mod belonging;
 mod hull;
 mod point_lists;
 mod records;
+mod sheet_estimate;
 mod sheet_run;
+mod sheets;
 mod stretch;
 
 use reference::chosen;
@@ -560,6 +562,7 @@ fn fuzzed_bytes() {
         compare_any_choice(&list, &mut random, &name);
         for bytes in [&any, &few] {
             sheet_run::compare_any_run(bytes, &mut random, &name);
+            sheet_estimate::try_any_estimate(bytes, &mut random, &name);
         }
     }
 }

@@ -1,5 +1,6 @@
 //! The run of a sheet under one allowance, tried by its words over the single calls, against the reference and by hand.
 
+use super::sheets::{assert_untouched, few_named, most_glyphs, most_points_apart, near, rows_of_glyphs, GLYPHS, PLACE};
 use super::{number, ours};
 use reference::description::describe;
 use reference::inputs::RunCase;
@@ -8,27 +9,26 @@ use reference::{damage, edges, letters, lists, run, sheet};
 use volkhidar::{load, record_of, run_sheet, smallest_disk};
 use volkhidar::{LIST_LENGTH, MOST_ALLOWANCE, MOST_BYTES, MOST_GLYPHS, MOST_POINTS, RECORD_LENGTH};
 
-/// What stands in a buffer and in a list before the run.
+/// What stands in a buffer before the run.
 const BYTE: u8 = 0xEE;
-const PLACE: u16 = 0xEEEE;
 
 /// The lengths of the buffer and of the list that a run is lent.
 #[derive(Clone, Copy, Debug)]
-struct Room {
-    bytes: usize,
-    places: usize,
+pub struct Room {
+    pub bytes: usize,
+    pub places: usize,
 }
 
 /// The least room for so many glyphs.
-fn room_for(glyphs: usize) -> Room {
+pub fn room_for(glyphs: usize) -> Room {
     Room { bytes: RECORD_LENGTH * glyphs, places: glyphs }
 }
 
 /// How many were worked and what is left, or the refusal's number; and the buffer and the list afterwards.
-struct Ran {
-    answer: Result<(usize, u64), u8>,
-    buffer: Vec<u8>,
-    numbers: Vec<u16>,
+pub struct Ran {
+    pub answer: Result<(usize, u64), u8>,
+    pub buffer: Vec<u8>,
+    pub numbers: Vec<u16>,
 }
 
 fn lend(room: Room, call: impl Fn(&mut [u8], &mut [u16]) -> Result<(usize, u64), u8>) -> Ran {
@@ -37,7 +37,7 @@ fn lend(room: Room, call: impl Fn(&mut [u8], &mut [u16]) -> Result<(usize, u64),
     Ran { answer, buffer, numbers }
 }
 
-fn run_in(room: Room, bytes: &[u8], allowance: u64) -> Ran {
+pub fn run_in(room: Room, bytes: &[u8], allowance: u64) -> Ran {
     lend(room, |buffer, numbers| ours(run_sheet(bytes, allowance, buffer, numbers)).map(|run| (run.worked, run.left)))
 }
 
@@ -68,13 +68,19 @@ fn single(text: &[u8]) -> Single {
     Ok((found.tests, record))
 }
 
-/// That a run that was not refused has done what it says, and nothing else, glyph by glyph: no other outcome passes.
-fn assert_is_run(ran: &Ran, singles: &[Single], allowance: u64, name: &str) {
+/// The records, the numbers and what is left, of a run of so many glyphs that was not refused; nothing is written behind them.
+pub fn written<'a>(ran: &'a Ran, glyphs: usize, name: &str) -> (&'a [u8], &'a [u16], u64) {
     let (worked, left) = ran.answer.unwrap_or_else(|refusal| panic!("refused with {refusal}: {name}"));
     let (records, bytes_behind) = ran.buffer.split_at(RECORD_LENGTH * worked);
-    let (numbers, places_behind) = ran.numbers.split_at(singles.len());
+    let (numbers, places_behind) = ran.numbers.split_at(glyphs);
     assert!(bytes_behind.iter().all(|&byte| byte == BYTE), "bytes behind the last record: {name}");
-    assert!(places_behind.iter().all(|&place| place == PLACE), "places behind the last glyph: {name}");
+    assert_untouched(places_behind, name);
+    (records, numbers, left)
+}
+
+/// That a run that was not refused has done what it says, and nothing else, glyph by glyph: no other outcome passes.
+fn assert_is_run(ran: &Ran, singles: &[Single], allowance: u64, name: &str) {
+    let (records, numbers, left) = written(ran, singles.len(), name);
     let mut records = records.chunks_exact(RECORD_LENGTH);
     let (mut spent, mut is_over) = (0, false);
     for (k, (single, &number)) in singles.iter().zip(numbers).enumerate() {
@@ -99,7 +105,7 @@ fn assert_is_run(ran: &Ran, singles: &[Single], allowance: u64, name: &str) {
 fn assert_refused(ran: &Ran, refusal: u8, name: &str) {
     assert_eq!(ran.answer, Err(refusal), "{name}");
     assert!(ran.buffer.iter().all(|&byte| byte == BYTE), "the buffer: {name}");
-    assert!(ran.numbers.iter().all(|&place| place == PLACE), "the list: {name}");
+    assert_untouched(&ran.numbers, name);
 }
 
 /// That a larger allowance changed no glyph that had its record: of the numbers, only a 16 may have become a 0.
@@ -139,13 +145,6 @@ fn try_allowances(bytes: &[u8], name: &str) -> Vec<u16> {
     runs.iter().flat_map(|ran| ran.numbers[..parts.len()].to_vec()).collect()
 }
 
-/// A sheet of these parts, one behind another.
-fn sheet_of(parts: &[Vec<u8>]) -> Vec<u8> {
-    let close: Vec<_> = parts.iter().map(|part| (vec![], part.clone())).collect();
-    let (pairs, body) = sheet::laid_out(&close);
-    sheet::with_directory(&pairs, &body)
-}
-
 /// Each against the reference, and those that are not refused with every allowance that makes a difference.
 #[test]
 fn drawn_sheets_run() {
@@ -179,23 +178,18 @@ fn edges_run() {
     }
 }
 
-/// All sheets of up to five glyphs that are a point, letter F, one of two faulty ones or empty, with each allowance up to one more than
-/// they take.
+/// With each allowance up to one more than they take: the point takes 1 test and letter F 7.
 #[test]
 fn glyphs_in_every_order_run() {
-    let glyphs: [(&[u8], u64); 5] = [(b"7 7", 1), (b"0 0\n4 0\n2 3", 7), (b"x", 0), (b"2049 0", 0), (b"", 0)];
-    for length in 0..=5 {
-        for order in 0..5_usize.pow(length) {
-            let which: Vec<usize> = (0..length).map(|place| order / 5_usize.pow(place) % 5).collect();
-            let parts: Vec<Vec<u8>> = which.iter().map(|&glyph| glyphs[glyph].0.to_vec()).collect();
-            let singles: Vec<Single> = parts.iter().map(|part| single(part)).collect();
-            let bytes = sheet_of(&parts);
-            let total: u64 = which.iter().map(|&glyph| glyphs[glyph].1).sum();
-            for allowance in 0..=total + 1 {
-                let name = format!("glyphs {which:?}, {allowance} tests");
-                let ran = compare_run(room_for(parts.len()), &bytes, allowance, &name);
-                assert_is_run(&ran, &singles, allowance, &name);
-            }
+    for row in rows_of_glyphs() {
+        let parts: Vec<Vec<u8>> = row.iter().map(|&glyph| GLYPHS[glyph].to_vec()).collect();
+        let singles: Vec<Single> = parts.iter().map(|part| single(part)).collect();
+        let bytes = sheet::packed(parts);
+        let total: u64 = row.iter().map(|&glyph| [1, 7, 0, 0, 0][glyph]).sum();
+        for allowance in 0..=total + 1 {
+            let name = format!("glyphs {row:?}, {allowance} tests");
+            let ran = compare_run(room_for(row.len()), &bytes, allowance, &name);
+            assert_is_run(&ran, &singles, allowance, &name);
         }
     }
 }
@@ -203,8 +197,7 @@ fn glyphs_in_every_order_run() {
 /// Letters A to K take 55 tests in all; with fewer, the first so many are worked.
 #[test]
 fn letters_of_the_papers_run() {
-    let parts: Vec<Vec<u8>> = letters::LETTERS.iter().map(|letter| describe(&letters::points(letter.list))).collect();
-    let bytes = sheet_of(&parts);
+    let bytes = sheet::packed(letters::LETTERS.iter().map(|letter| describe(&letters::points(letter.list))));
     let mut before = 0;
     for (k, letter) in letters::LETTERS.iter().enumerate() {
         for left in 0..letter.tests {
@@ -239,13 +232,13 @@ fn numbers_by_hand() {
         (11, 3, 0, [5, 0, 2, 0, 3, 0]),
         (MOST_ALLOWANCE, 3, MOST_ALLOWANCE - 11, [5, 0, 2, 0, 3, 0]),
     ];
-    assert_runs(&sheet_of(&text.map(<[u8]>::to_vec)), &cases);
+    assert_runs(&sheet::packed(text.map(<[u8]>::to_vec)), &cases);
 }
 
 /// 1 before 6, 6 before 8, 8 before 17. Room is asked for faulty glyphs too, and none for a sheet without glyphs.
 #[test]
 fn refusals_by_hand() {
-    let two = sheet_of(&[b"0 0".to_vec(), b"x".to_vec()]);
+    let two = sheet::packed([b"0 0".to_vec(), b"x".to_vec()]);
     let (short, long) = (&two[..two.len() - 1], &[&two[..], &[0; MOST_BYTES]].concat()[..]);
     let room = |bytes, places| Room { bytes, places };
     let cases = [
@@ -289,9 +282,7 @@ fn damaged_sheets_run() {
 
 /// With any allowance, and room for as many glyphs as the first bytes name, up to 40, or nearly. Answers the number of the refusal, or 0.
 pub fn compare_any_run(bytes: &[u8], random: &mut Random, name: &str) -> u8 {
-    let glyphs = bytes.get(..2).map_or(0, |count| usize::from(count[0]) * 256 + usize::from(count[1]));
-    let least = room_for(glyphs.min(40));
-    let near = |length: usize, random: &mut Random| (length + random.pick(&[1, 1, 1, 1, 1, 1, 2, 0, 60])).saturating_sub(1);
+    let least = room_for(few_named(bytes));
     let room = Room { bytes: near(least.bytes, random), places: near(least.places, random) };
     let any = random.word() >> random.below(64);
     let allowance = random.pick(&[0, 1, 5, 20, MOST_ALLOWANCE, MOST_ALLOWANCE + 1, any]);
@@ -301,7 +292,7 @@ pub fn compare_any_run(bytes: &[u8], random: &mut Random, name: &str) -> u8 {
 /// As many glyphs as a sheet can have: they have no bytes, so each is refused with 5 and costs nothing.
 #[test]
 fn the_most_glyphs_run() {
-    let bytes = sheet_of(&vec![vec![]; MOST_GLYPHS]);
+    let bytes = sheet::packed(most_glyphs());
     assert_eq!(bytes.len(), 65_534);
     let room = room_for(MOST_GLYPHS);
     assert_eq!(room.bytes, 868_299);
@@ -315,16 +306,13 @@ fn the_most_glyphs_run() {
     }
 }
 
-/// As many glyphs as a sheet can have that are a point each, and then the same behind an empty one.
 #[test]
 fn the_most_points_apart_run() {
-    let count = (MOST_BYTES - 2) / 7;
     let point = single(b"9 7");
-    let sheets = [vec![b"9 7".to_vec(); count], [vec![vec![]], vec![b"9 7".to_vec(); count - 1]].concat()];
-    for parts in sheets {
+    for parts in most_points_apart() {
         let singles: Vec<Single> = parts.iter().map(|part| if part.is_empty() { Err(5) } else { point }).collect();
         let acceptable = singles.iter().flatten().count();
-        let bytes = sheet_of(&parts);
+        let bytes = sheet::packed(parts);
         let room = Room { bytes: 868_299, places: MOST_GLYPHS };
         for tests in [0, 1, acceptable / 2, acceptable - 1, acceptable, acceptable + 1] {
             let ran = compare_run(room, &bytes, tests as u64, "points");
@@ -345,7 +333,7 @@ fn the_most_points_of_a_glyph_run() {
         (8_192, 2, 0, [0, 4, 0, 16]),
         (8_193, 3, 0, [0, 4, 0, 0]),
     ];
-    assert_runs(&sheet_of(&[most.clone(), more, most, b"9 9".to_vec()]), &cases);
+    assert_runs(&sheet::packed([most.clone(), more, most, b"9 9".to_vec()]), &cases);
 }
 
 /// One long glyph of each kind between two short ones.
@@ -353,6 +341,6 @@ fn the_most_points_of_a_glyph_run() {
 fn long_glyphs_run() {
     for case in lists::long() {
         let parts = [b"0 0\n4 0".to_vec(), describe(&case.points), b"5 5".to_vec()];
-        try_allowances(&sheet_of(&parts), &case.name);
+        try_allowances(&sheet::packed(parts), &case.name);
     }
 }
