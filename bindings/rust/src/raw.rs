@@ -301,6 +301,7 @@ mod tests {
         assert_eq!(run(9, 7, 53, 1), (0, 1, 6));
         assert_eq!((buffer[52], numbers), (1, [0]));
     }
+
     /// Estimates of the sheet: too long, without its last byte, without the one place of a list.
     #[test]
     fn a_refused_estimate_holds_nothing_else() {

@@ -3,10 +3,10 @@
 --   loads s n         == what the loader answers for each of the n glyphs of the sheet s
 --   pointsOf o        == the points of a glyph for which it answers o; 0 where the description is faulty
 --   refusalOf o       == its refusal, or 0
---   mostTests n       == (n³ + 5n) / 6, the most tests that n points can take (00, demand 3)
---   bytesFor o, testsFor o == the bytes of its record, and the most tests for its points; 0 where it is faulty
+--   mostTests n       == (n³ + 5n) / 6: the tests for n points are never more (00, demand 3)
+--   bytesFor o, testsFor o == the bytes of its record, and `mostTests` of its points; 0 where it is faulty
 --   sum ns            == the sum of the numbers ns
---   Estimate          == for each glyph its points, and its refusal or 0; the bytes of the records of all acceptable ones; the most tests of these
+--   Estimate          == for each glyph its points, and its refusal or 0; the bytes of the records of all acceptable ones, and their tests
 --   estimated s n     == the estimate for the n glyphs of the sheet s
 --   estimateOf s ps rs == the estimate for the sheet s, lent the lists ps and rs, or the refusal due first: 1, 6, then 8 for a list that is too short
 --   answerOf o        == the bytes and the tests

@@ -12,7 +12,7 @@ use description::Loaded;
 use directory::Counted;
 
 pub enum Estimated {
-    // The bytes of the records of all acceptable glyphs, and the most tests that these can take.
+    // The bytes of the records of all acceptable glyphs, and as many tests as are enough for them.
     Takes(usize, u64),
     Refused(Refusal),
 }
@@ -25,7 +25,7 @@ struct Share {
     tests: u64,
 }
 
-// The most tests that n points can take.
+// As many tests as are enough for n points.
 fn most_tests(n: u64) -> u64
     requires { ⌜ n ≤ 4096 ⌝ }
     ensures { λ r. ⌜ r ≡ mostTests n ⌝ }
