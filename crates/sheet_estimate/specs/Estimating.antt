@@ -7,7 +7,8 @@
 --   bytesFor o, testsFor o == the bytes of its record, and `mostTests` of its points; 0 where it is faulty
 --   sum ns            == the sum of the numbers ns
 --   Estimate          == for each glyph its points, and its refusal or 0; the bytes of the records of all acceptable ones, and their tests
---   estimated s n     == the estimate for the n glyphs of the sheet s
+--   estimate os       == the estimate for glyphs for which the loader answers os
+--   estimated s n     == that for the n glyphs of the sheet s
 --   estimateOf s ps rs == the estimate for the sheet s, lent the lists ps and rs, or the refusal due first: 1, 6, then 8 for a list that is too short
 --   answerOf o        == the bytes and the tests
 --   pointsBy o ps, refusalsBy o rs == what an estimate that comes to o leaves in the lists; refused, what was there
