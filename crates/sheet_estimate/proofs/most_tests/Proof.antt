@@ -1,4 +1,5 @@
 -- `sheet_estimate::most_tests` meets its contract: for at most 4,096 points nothing overflows.
+use mathlib.Core.Path.{refl}
 use native.Mathlib.Omega.{arith}
 use borrow.Author.Needs.{needs}
 use Rattle.sheet_estimate.proofs.Sums.{square-most, cube-most}
@@ -18,7 +19,7 @@ add-result : tie.Need-add-result
 add-result c = omega (arith, cube-most (c .args .n) (c .pre))
 
 returns : tie.Need-returns
-returns c = search needs
+returns c = refl
 
 pub most-tests-spec : {M : Type 1} → statement M
 most-tests-spec = tie.close (tie.spec mul-result mul-result-2 mul-result-3 add-result returns)
