@@ -139,12 +139,14 @@ module _ (s ps rs : List ℕ) (b t : ℕ) (z : Known s ps rs b t) where
   own k m e = sound s (counted .short) k .own m (letter-unloaded (partAt s k) room room-long m e)
 
   -- the loader's answer in another list
-  load-is : (k : ℕ) (d : List ℕ) (list : List ℤ) (o : Outcome ℕ) → glyphBytes s k ≡ given d → 8192 ≤ length list → loadOf d list ≡ o → loadAt s k ≡ o
+  load-is : (k : ℕ) (d : List ℕ) (list : List ℤ) (o : Outcome ℕ) → glyphBytes s k ≡ given d → 8192 ≤ length list → loadOf d list ≡ o
+      → loadAt s k ≡ o
   load-is k d list o e room-for h =
       ap (λ (text : List ℕ). loadOf text room) (sym (described s k d e .1)) ∙ load-same d room list room-long room-for ∙ h
 
   -- a term of the sums, by the lists
-  term-is : (g : ℕ → ℕ) (f : Outcome ℕ → ℕ) (k : ℕ) → ((m : ℕ) → loadAt s k ≡ given m → g k ≡ f (given m)) → ((m : ℕ) → f (refused m) ≡ 0) → k < n
+  term-is : (g : ℕ → ℕ) (f : Outcome ℕ → ℕ) (k : ℕ) → ((m : ℕ) → loadAt s k ≡ given m → g k ≡ f (given m))
+      → ((m : ℕ) → f (refused m) ≡ 0) → k < n
       → f (loadAt s k) ≡ acceptable refusals g k
   term-is g f k when-given when-refused below = by-load (loadAt s k) refl
     where
@@ -155,8 +157,8 @@ module _ (s ps rs : List ℕ) (b t : ℕ) (z : Known s ps rs b t) where
       by-load (given m) e =
           ap f e ∙ sym (when-given m e) ∙ sym (ap (λ (j : ℕ). when (eqb j 0) (g k)) (refusal-at k below ∙ ap refusalOf e))
       by-load (refused m) e =
-          ap f e ∙ when-refused m
-          ∙ sym (ap (λ (j : ℕ). when (eqb j 0) (g k)) (refusal-at k below ∙ ap refusalOf e) ∙ ap (λ (c : Bool). when c (g k)) (ne-eqb m 0 (no m (own k m e .0))))
+          let test = ap (λ (j : ℕ). eqb j 0) (refusal-at k below ∙ ap refusalOf e) ∙ ne-eqb m 0 (no m (own k m e .0)) in
+          ap f e ∙ when-refused m ∙ sym (ap (λ (c : Bool). when c (g k)) test)
 
   is-true : EstimateIsTrue s ps rs b t points refusals
   is-true = record {

@@ -62,7 +62,8 @@ use Rattle.record_reader.proofs.RecordFields.{Wide, wide-em, wide-old}
 use Rattle.preview.specs.Preview.{floats, previewOf}
 use Rattle.rules.specs.Row.{Rule, _unless_, eachOf, GoesBy}
 use Rattle.rules.specs.Rules.{Bytes, RecordableIn, Recordable, IsRecordOf, current, old, IsRecord, Names}
-use Rattle.rules.specs.Rules.{loaderRow, directoryRow, sheetRow, runRow, estimateRow, engineRow, writerRow, readerRow, diskRow, appendRow, throughRow, pointRow, tracedRow}
+use Rattle.rules.specs.Rules.{loaderRow, directoryRow, sheetRow, runRow, estimateRow, engineRow, writerRow, readerRow}
+use Rattle.rules.specs.Rules.{diskRow, appendRow, throughRow, pointRow, tracedRow}
 use Rattle.rules.proofs.RowLaws.{row-end, row-step, row-then, row-through, row-none, row-first}
 use Rattle.geometry.proofs.EmBox.{inside, inside-test, all-inside, inside-all}
 use Rattle.rules.proofs.Recordables.{valid-recordable, recordable-valid, belongs-belong, belong-belongs}

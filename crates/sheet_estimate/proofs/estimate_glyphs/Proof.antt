@@ -68,13 +68,15 @@ add-bytes : tie.Need-add-bytes Inv-loop μ-loop
 add-bytes c =
     let l = c .before in
     let p = lent (at l) .pre .0 in
-    omega (arith, at l .loop .inv .0 .bytes-told .small, share-bytes (partAt (sheet l) (at l .loop .i)) (share-is l), in-loop l .loop-test .taken, p .directory, p .short)
+    let few = share-bytes (partAt (sheet l) (at l .loop .i)) (share-is l) in
+    omega (arith, at l .loop .inv .0 .bytes-told .small, few, in-loop l .loop-test .taken, p .directory, p .short)
 
 add-tests : tie.Need-add-tests Inv-loop μ-loop
 add-tests c =
     let l = c .before .before in
     let p = lent (at l) .pre .0 in
-    omega (arith, at l .loop .inv .0 .tests-told .small, share-tests (partAt (sheet l) (at l .loop .i)) (share-is l), in-loop l .loop-test .taken, p .directory, p .short)
+    let few = share-tests (partAt (sheet l) (at l .loop .i)) (share-is l) in
+    omega (arith, at l .loop .inv .0 .tests-told .small, few, in-loop l .loop-test .taken, p .directory, p .short)
 
 add-i : tie.Need-add-i Inv-loop μ-loop
 add-i c = omega (arith, in-loop (c .before .before) .loop-test .taken)

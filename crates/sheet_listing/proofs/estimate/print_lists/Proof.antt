@@ -16,7 +16,8 @@ enum-known-count c = search needs
 print-glyphs-requires : tie.Need-print-glyphs-requires
 print-glyphs-requires c κs =
     let counted = c .before .before .before in
-    let k = count-known (counted .before .before .before .before .args .sheet .now) _ (sym (counted .count-glyphs .ensures) ∙ ap outcome (c .before .count .given .1)) in
+    let sheet = counted .before .before .before .before .args .sheet .now in
+    let k = count-known sheet _ (sym (counted .count-glyphs .ensures) ∙ ap outcome (c .before .count .given .1)) in
     omega (arith, k .all, k .whole, k .short)
 
 enum-told : tie.Need-enum-told
