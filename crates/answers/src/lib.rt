@@ -1,4 +1,6 @@
 // Refusals: why a call turns its input down (01, "What a refused call hands back"; from 11 on, 02).
+#![tactic(auto)]
+
 ghost use Rattle.std.specs.Prelude.{◌≡◌};
 ghost use Rattle.answers.specs.Outcome.{number_of};
 

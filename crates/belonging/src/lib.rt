@@ -1,4 +1,6 @@
 // Whether points belong to a disk (02, item 9): by tests of their coordinates, which say the same as the smallest disks of the definition.
+#![tactic(auto)]
+
 ghost use Rattle.std.specs.Prelude.{◌≡◌, true, ◌&&◌};
 ghost use Rattle.geometry.specs.Plane.{members, numbers};
 ghost use Rattle.support_tests.specs.Tests.{on_boundary_test, opposite, acute, SmallDisk};

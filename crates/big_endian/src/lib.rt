@@ -1,5 +1,7 @@
 // Whole numbers in fields of n bytes, high byte first, at a place of a lent slice (01: "high byte first"). One set of functions
 // for every width from 1 to 8 bytes; 01 uses 2 and 8.
+#![tactic(auto)]
+
 ghost use Rattle.std.specs.Prelude.{◌≡◌, ◌+◌, ◌*◌, ◌^◌, ◌≤◌, ◌<◌, length};
 ghost use Rattle.std.specs.Int.Signed.{mag};
 ghost use Rattle.big_endian.specs.Fields.{put, get};

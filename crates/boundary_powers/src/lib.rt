@@ -1,5 +1,7 @@
 // The power of a point in a disk. The points of the boundary all have the same, and no other point has it: so where one of them is known, the others
 // are found in 64 bits, without their distance from the centre.
+#![tactic(auto)]
+
 ghost use Rattle.std.specs.Prelude.{◌≡◌, ◌≤◌};
 ghost use Rattle.geometry.specs.Plane.{numbers};
 ghost use Rattle.support_tests.specs.Tests.{on_boundary_test, SmallPair, SmallDisk};

@@ -1,4 +1,6 @@
 // A drawing program's point put behind the points of a list, as C has the call: the point as a kind and values, since no enum crosses the border.
+#![tactic(auto)]
+
 ghost use Rattle.std.specs.Prelude.{◌≡◌};
 ghost use Rattle.drawn_points.specs.Appending.{append_of, list_after};
 ghost use Rattle.c_load.specs.Answer.{load_answer};

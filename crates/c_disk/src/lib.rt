@@ -1,4 +1,6 @@
 // The smallest disk of a point list, as C has the call.
+#![tactic(auto)]
+
 ghost use Rattle.std.specs.Prelude.{◌≡◌};
 ghost use Rattle.answers.specs.Outcome.{refused, number_of};
 ghost use Rattle.engine.specs.Engine.{enclose_of, list_after};

@@ -1,4 +1,6 @@
 // What a sheet will take, as C has the call.
+#![tactic(auto)]
+
 ghost use Rattle.std.specs.Prelude.{◌≡◌};
 ghost use Rattle.sheet_estimate.specs.Estimating.{estimate_of, answer_of, points_after, refusals_after};
 ghost use Rattle.c_estimate.specs.Answer.{estimate_answer};

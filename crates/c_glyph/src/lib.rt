@@ -1,4 +1,6 @@
 // Where glyph k of a sheet lies, as C has the call.
+#![tactic(auto)]
+
 ghost use Rattle.std.specs.Prelude.{◌≡◌};
 ghost use Rattle.sheet.specs.Sheet.{glyph_of};
 ghost use Rattle.c_glyph.specs.Answer.{glyph_answer};

@@ -1,4 +1,6 @@
 // A list of points reduced to the corners of its convex hull, as C has the call.
+#![tactic(auto)]
+
 ghost use Rattle.std.specs.Prelude.{◌≡◌};
 ghost use Rattle.hull_points.specs.Reducing.{reduce_of, list_after};
 ghost use Rattle.c_load.specs.Answer.{load_answer};

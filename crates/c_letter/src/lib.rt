@@ -1,4 +1,6 @@
 // From a description to its record, as C has the call.
+#![tactic(auto)]
+
 ghost use Rattle.std.specs.Prelude.{◌≡◌};
 ghost use Rattle.letter.specs.Letter.{letter_in, buffer_after};
 ghost use Rattle.c_types.specs.Code.{code_of};

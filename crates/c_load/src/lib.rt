@@ -1,4 +1,6 @@
 // A description loaded, as C has the call.
+#![tactic(auto)]
+
 ghost use Rattle.std.specs.Prelude.{◌≡◌};
 ghost use Rattle.description.specs.Description.{load_of, list_after};
 ghost use Rattle.c_load.specs.Answer.{load_answer};

@@ -1,4 +1,6 @@
 // The preview of a disk, as C has the call.
+#![tactic(auto)]
+
 ghost use Rattle.std.specs.Prelude.{◌≡◌};
 ghost use Rattle.answers.specs.Outcome.{refused, number_of};
 ghost use Rattle.geometry.specs.Plane.{members, numbers};

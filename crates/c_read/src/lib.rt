@@ -1,4 +1,6 @@
 // A record read, as C has the call.
+#![tactic(auto)]
+
 ghost use Rattle.std.specs.Prelude.{◌≡◌};
 ghost use Rattle.answers.specs.Outcome.{refused, number_of};
 ghost use Rattle.record_reader.specs.Reading.{read_of};

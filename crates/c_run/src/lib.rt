@@ -1,4 +1,6 @@
 // A sheet run under one allowance of tests, as C has the call.
+#![tactic(auto)]
+
 ghost use Rattle.std.specs.Prelude.{◌≡◌};
 ghost use Rattle.sheet_run.specs.Running.{run_of, answer_of, buffer_after, numbers_after};
 ghost use Rattle.c_run.specs.Answer.{run_answer};

@@ -1,4 +1,6 @@
 // The widest stretch of a list, as C has the call.
+#![tactic(auto)]
+
 ghost use Rattle.std.specs.Prelude.{◌≡◌};
 ghost use Rattle.widest_stretch.specs.Stretching.{stretch_of};
 ghost use Rattle.c_stretch.specs.Answer.{stretch_answer};

@@ -1,5 +1,7 @@
 // The smallest disk with chosen points on its boundary, as C has the call: two points, and one that is chosen alone stands there twice, since no
 // enum crosses the border.
+#![tactic(auto)]
+
 ghost use Rattle.std.specs.Prelude.{◌≡◌};
 ghost use Rattle.chosen_points.specs.declared.Chosen.TheVariants.{Two};
 ghost use Rattle.chosen_points.specs.Chosen.{through_of};

@@ -1,4 +1,6 @@
 // The smallest disk of a list of traced points, as C has the call.
+#![tactic(auto)]
+
 ghost use Rattle.std.specs.Prelude.{◌≡◌};
 ghost use Rattle.traced_points.specs.Traced.{traced_of};
 ghost use Rattle.c_through.specs.Answer.{through_answer};

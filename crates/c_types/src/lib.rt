@@ -1,4 +1,6 @@
 // What the calls have in common as C has them: a support set as a struct of numbers, the number of a refusal, and what stands beside one.
+#![tactic(auto)]
+
 ghost use Rattle.std.specs.Prelude.{◌≡◌};
 ghost use Rattle.answers.specs.Outcome.{number_of};
 ghost use Rattle.geometry.specs.Plane.{members};

@@ -1,4 +1,6 @@
 // A record written, as C has the call.
+#![tactic(auto)]
+
 ghost use Rattle.std.specs.Prelude.{◌≡◌};
 ghost use Rattle.geometry.specs.Plane.{members, numbers};
 ghost use Rattle.record_writer.specs.Writing.{write_of, buffer_after};

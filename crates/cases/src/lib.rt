@@ -1,4 +1,6 @@
 // Stored cases (tests/README.md has their layout): the next case of the input, and the numbers and points that its bytes stand for.
+#![tactic(auto)]
+
 ghost use Rattle.std.specs.Prelude.{◌≤◌};
 
 use geometry::Point;

@@ -1,4 +1,6 @@
 // Stored cases of lists with chosen points (tests/README.md): each is given its bytes, and what the call answers and leaves is printed.
+#![tactic(auto)]
+
 use chosen_points::{Chosen, Through};
 
 // Of the count 1 the first point alone.

@@ -1,4 +1,6 @@
 // The smallest disk that holds a list and has one or two chosen points of it on its boundary (02, item 6: a registration corner on the rim).
+#![tactic(auto)]
+
 ghost use Rattle.std.specs.Prelude.{◌≡◌};
 ghost use Rattle.geometry.specs.Points.{points};
 ghost use Rattle.point_lists.specs.Sets.{has, all_of};

@@ -1,5 +1,7 @@
 // The lowest and the highest point of each column of the em box. So the points of a list that can be corners of its convex hull are found in order
 // without a sort: at most two for each x.
+#![tactic(auto)]
+
 ghost use Rattle.std.specs.Prelude.{◌≡◌, true, [], ℕ, ◌+◌, ◌*◌, ◌/◌, ◌%◌, ◌≤◌, ◌<◌, pos, length, get_or};
 ghost use Rattle.integers.specs.Order.{◌≺◌};
 ghost use Rattle.geometry.specs.EmBox.{all_in_em_box};

@@ -1,4 +1,6 @@
 // Descriptions: the points on the lines of a text, loaded into a list of numbers (01, "Description, sheet, record").
+#![tactic(auto)]
+
 ghost use Rattle.std.specs.Prelude.{◌≡◌, ◌*◌, ◌<◌, ◌≤◌, length, drop};
 ghost use Rattle.description.specs.Description.{lines_read, named, by_line, load_of, list_after, outcome};
 ghost use Rattle.description.specs.Verdict.{StepAt, Kept};

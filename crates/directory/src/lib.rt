@@ -1,4 +1,6 @@
 // A sheet's directory: the count, and the pairs of offset and length, looked at once (01, "A sheet").
+#![tactic(auto)]
+
 ghost use Rattle.std.specs.Prelude.{◌≡◌, ◌+◌, ◌*◌, ◌≤◌, ◌<◌, length};
 ghost use Rattle.directory.specs.Directory.{number, pairs, follow, count_of, outcome};
 

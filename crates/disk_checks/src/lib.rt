@@ -1,4 +1,6 @@
 // The checks of a disk and its points (01: refusal 7; 02, item 9: 15).
+#![tactic(auto)]
+
 ghost use Rattle.std.specs.Prelude.{◌≡◌};
 ghost use Rattle.geometry.specs.Plane.{numbers, members};
 ghost use Rattle.geometry.specs.EmBox.{em};

@@ -1,4 +1,6 @@
 // The greatest common divisor, and three numbers in lowest terms (01: the divisor rule).
+#![tactic(auto)]
+
 ghost use Rattle.std.specs.Prelude.{◌≡◌, ◌<◌, ◌^◌, pos};
 ghost use Rattle.std.specs.Int.Signed.{quot_z};
 ghost use Rattle.divisors.specs.Divisor.{gcd, common, lowest};

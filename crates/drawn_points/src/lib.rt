@@ -1,4 +1,6 @@
 // Points from a drawing program (02, item 2): two whole numbers or two floats, put behind the points of a list.
+#![tactic(auto)]
+
 ghost use Rattle.std.specs.Prelude.{◌≡◌};
 ghost use Rattle.drawn_points.specs.declared.DrawnPoint.TheVariants.{Drawn};
 ghost use Rattle.drawn_points.specs.Appending.{append_of, list_after, outcome};

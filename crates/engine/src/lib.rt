@@ -1,4 +1,6 @@
 // The disk engine: the smallest enclosing disk of a list of points, its first support set and the test count.
+#![tactic(auto)]
+
 ghost use Rattle.std.specs.Prelude.{◌≡◌, ◌%◌, length};
 ghost use Rattle.geometry.specs.EmBox.{all_in_em_box};
 ghost use Rattle.geometry.specs.Points.{points};

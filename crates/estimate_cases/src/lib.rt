@@ -1,4 +1,6 @@
 // Stored cases of what a sheet will take (tests/README.md): each is given its bytes, and what the call answers and leaves is printed.
+#![tactic(auto)]
+
 use sheet_estimate::Estimated;
 
 fn estimate(sheet: &[u8], points: &mut [u16], refusals: &mut [u16]) {

@@ -1,4 +1,6 @@
 // The two points of a list that are farthest apart, found pair by pair.
+#![tactic(auto)]
+
 ghost use Rattle.std.specs.Prelude.{true, ◌≡◌, ◌+◌, ◌*◌, ◌≤◌, max, length, drop};
 ghost use Rattle.geometry.specs.EmBox.{em, Inside, all_in_em_box};
 ghost use Rattle.geometry.specs.Points.{points, point_at};

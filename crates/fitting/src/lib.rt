@@ -2,6 +2,8 @@
 //
 // A disk that is the smallest for some of the points and holds all is the smallest for all; and where no disk fits some of them, none fits all.
 // So Welzl's procedure is run on few points, those that were found outside, which stand at the front of the list.
+#![tactic(auto)]
+
 ghost use Rattle.std.specs.Prelude.{◌*◌, ◌/◌, ◌≤◌, length};
 ghost use Rattle.geometry.specs.Points.{points, first_points};
 ghost use Rattle.relative_disks.specs.Relative.{Small};

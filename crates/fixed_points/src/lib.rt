@@ -1,4 +1,6 @@
 // The set R of points fixed on the boundary, and the smallest disk that has them there (000: R and md(∅, R)).
+#![tactic(auto)]
+
 ghost use Rattle.std.specs.Prelude.{◌≡◌};
 ghost use Rattle.disks.specs.Procedure.{boundary_disk};
 ghost use Rattle.relative_disks.specs.Relative.{Keeps};

@@ -1,4 +1,6 @@
 // Points, disks and support sets; the em box; points in a list of numbers.
+#![tactic(auto)]
+
 ghost use Rattle.std.specs.Prelude.{◌≡◌, ◌+◌, ◌*◌, ◌≤◌, ◌-ℤ◌, length};
 ghost use Rattle.geometry.specs.EmBox.{em, old_em, in_box, in_em_box};
 ghost use Rattle.geometry.specs.Points.{point_at};

@@ -1,1 +1,2 @@
 // The convex hull of a list of points: definitions and theory alone.
+#![tactic(auto)]

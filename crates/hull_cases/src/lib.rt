@@ -1,4 +1,6 @@
 // Stored cases of lists reduced to their convex hull (tests/README.md): each is given its bytes, and what the calls answer and leave is printed.
+#![tactic(auto)]
+
 use hull_points::Reduced;
 
 // How many points were kept; 0 where the list is refused.

@@ -1,4 +1,6 @@
 // The convex hull of a list of points, put in the list's place.
+#![tactic(auto)]
+
 ghost use Rattle.std.specs.Prelude.{◌≡◌, ℕ, ◌+◌, ◌-◌, ◌*◌, ◌≤◌, ◌<◌, length};
 ghost use Rattle.geometry.specs.Points.{points};
 ghost use Rattle.hull.specs.Chains as Chains;

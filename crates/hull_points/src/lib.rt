@@ -1,4 +1,6 @@
 // Outlines stripped to what sticks out: a list of points reduced to the corners of its convex hull (02, item 8).
+#![tactic(auto)]
+
 ghost use Rattle.std.specs.Prelude.{◌≡◌};
 ghost use Rattle.hull_points.specs.Reducing.{outcome, reduce_of, list_after};
 

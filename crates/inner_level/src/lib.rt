@@ -1,4 +1,6 @@
 // The level of Welzl's procedure with two points fixed, in the text's own sequence (000, B_MTFDISK; 02, item 5: the inner level).
+#![tactic(auto)]
+
 ghost use Rattle.fixed_points.specs.declared.Boundary.TheVariants.{Two};
 ghost use Rattle.inner_level.specs.Ran.{Given, Ran};
 

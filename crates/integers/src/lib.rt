@@ -1,4 +1,6 @@
 // Whole numbers of the machine: the size of one, and a test of range.
+#![tactic(auto)]
+
 ghost use Rattle.std.specs.Prelude.{◌≡◌, nat_abs};
 ghost use Rattle.integers.specs.Order.{between};
 

@@ -1,4 +1,6 @@
 // Two chains joined in front of a list, with zeros behind.
+#![tactic(auto)]
+
 ghost use Rattle.std.specs.Prelude.{◌≡◌, ◌++◌, ◌+◌, ◌-◌, ◌*◌, ◌≤◌, pos, length, take, drop, replicate};
 ghost use Rattle.geometry.specs.Points.{first_points};
 ghost use Rattle.joined_chains.specs.Laid.{laid, joined};

@@ -1,5 +1,7 @@
 // One letter worked whole: loader, engine, record (01, "Description, sheet, record"). `enclose` and `work` have a list of their own, so
 // that a loop that calls them takes no stack at its turns; a loop over many short letters lends `enclose_in` one list for all.
+#![tactic(auto)]
+
 ghost use Rattle.std.specs.Prelude.{◌≡◌, ◌≤◌, length};
 ghost use Rattle.engine.specs.Engine as engine;
 ghost use Rattle.letter.specs.Letter.{enclosure_of, letter_in, tests_in, buffer_after, outcome};

@@ -1,4 +1,6 @@
 // Lines of a text: blank, a point, or a fault (01, "Description, sheet, record").
+#![tactic(auto)]
+
 ghost use Rattle.std.specs.Prelude.{◌≡◌, ◌≤◌, length, drop};
 ghost use Rattle.numerals.specs.Places.{is_feed, ends, Reaches};
 ghost use Rattle.lines.specs.LineAt.{after_spaces, LineAt};

@@ -1,5 +1,7 @@
 // Stored cases of descriptions, point lists, the procedure with two points fixed and a drawing program's points (tests/README.md): each is given its
 // bytes, and what the calls answer and leave is printed.
+#![tactic(auto)]
+
 ghost use Rattle.std.specs.Prelude.{◌≡◌, ◌%◌, ◌≤◌, length};
 ghost use Rattle.relative_disks.specs.Relative.{Small};
 

@@ -1,4 +1,6 @@
 // The listing program: reads a description from standard input and prints its smallest disk, support set, whole radius and test count.
+#![tactic(auto)]
+
 use reading::Input;
 
 fn main() {

@@ -1,4 +1,6 @@
 // A disk written in lowest terms: centre (x/e, y/e) and squared radius s/e² without a common divisor of x, y and e.
+#![tactic(auto)]
+
 ghost use Rattle.std.specs.Prelude.{◌≡◌, nat_abs, ◌+ℤ◌, ◌*ℤ◌};
 ghost use Rattle.geometry.specs.Plane.{numbers};
 ghost use Rattle.disks.specs.Procedure.{norm, lowest_terms};

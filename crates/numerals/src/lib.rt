@@ -1,4 +1,6 @@
 // Numbers in a text: one plus, one minus or no sign, then 1 to 4 decimal digits (01, "Description, sheet, record"; 02, item 1).
+#![tactic(auto)]
+
 ghost use Rattle.std.specs.Prelude.{◌≡◌, true, ◌&&◌, ◌-◌, ◌<◌, ◌≤◌, ltb, length, drop};
 ghost use Rattle.integers.specs.Order.{signed};
 ghost use Rattle.numerals.specs.Numeral.{is_digit};

@@ -1,4 +1,6 @@
 // Lists of points: as sets and in rising order (specs), a point written into a list of numbers, and a list copied to the front of another.
+#![tactic(auto)]
+
 ghost use Rattle.std.specs.Prelude.{◌≡◌, ◌+◌, ◌*◌, ◌≤◌, length};
 ghost use Rattle.std.proofs.Math.Seq.{paste};
 ghost use Rattle.point_lists.specs.Sets.{same};

@@ -1,4 +1,6 @@
 // A point of a list moved to the front (000: "move to front").
+#![tactic(auto)]
+
 ghost use Rattle.std.specs.Prelude.{◌≡◌, ◌+◌, ◌*◌, ◌≤◌, length};
 ghost use Rattle.geometry.specs.Points.{to_front};
 

@@ -1,4 +1,6 @@
 // The preview of a disk (01: three f64 values): its centre, and its whole radius.
+#![tactic(auto)]
+
 ghost use Rattle.std.specs.Prelude.{◌≡◌, true, ◌≤◌};
 ghost use Rattle.geometry.specs.Plane.{members, numbers};
 ghost use Rattle.validity.specs.Valid.{valid_disk};

@@ -1,4 +1,6 @@
 // Lines of words and numbers on the standard output.
+#![tactic(auto)]
+
 ghost use Rattle.std.specs.Prelude.{◌≤◌, length};
 
 use answers::Refusal;

@@ -1,4 +1,6 @@
 // The whole radius of a disk (01: the cutting radius; its rule: 02, item 3).
+#![tactic(auto)]
+
 ghost use Rattle.std.specs.Prelude.{◌≡◌, true, ◌≤◌};
 ghost use Rattle.geometry.specs.Plane.{members, numbers};
 ghost use Rattle.validity.specs.Valid.{valid_disk};

@@ -1,4 +1,6 @@
 // Standard input read whole.
+#![tactic(auto)]
+
 ghost use Rattle.std.specs.Prelude.{length};
 ghost use Rattle.reading.specs.Reading.{Brings, Holds};
 

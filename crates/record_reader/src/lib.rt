@@ -1,4 +1,6 @@
 // The record reader: records of 53 bytes, and of 45 by the limits of the old em. What differs is how many bytes S has, n, and what stands behind it.
+#![tactic(auto)]
+
 ghost use Rattle.std.specs.Prelude.{◌≡◌, ◌+◌, ◌≤◌, eqb, length};
 ghost use Rattle.big_endian.specs.Fields.{get};
 ghost use Rattle.wide_numbers.specs.Value.{value};

@@ -1,4 +1,6 @@
 // The record's layout (01, "Description, sheet, record"; 02, items 4 and 10: 53 bytes), and the record writer.
+#![tactic(auto)]
+
 ghost use Rattle.std.specs.Prelude.{◌≡◌, [], ◌∷◌, ◌++◌, ◌+◌, ◌≤◌, length};
 ghost use Rattle.std.proofs.lemmas.List.Edits.{sets};
 ghost use Rattle.big_endian.specs.Fields.{bytes_of, put};

@@ -1,4 +1,6 @@
 // A disk relative to a point q on its boundary: the test of a point, and the disks of two and three points on the boundary.
+#![tactic(auto)]
+
 ghost use Rattle.std.specs.Prelude.{◌≡◌, ◌-ℤ◌};
 ghost use Rattle.relative_disks.specs.Relative.{Coordinates, Differences, Near, SmallNumbers, Small, beyond, is_outside, diameter_about, circle_about};
 

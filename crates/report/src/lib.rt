@@ -1,4 +1,6 @@
 // What the listing prints of a description: four lines, or one line where it is refused (01, "Letters to try").
+#![tactic(auto)]
+
 use engine::Enclosed;
 use geometry::{Disk, SupportSet};
 use radius::Radius;

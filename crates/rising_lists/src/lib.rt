@@ -1,4 +1,6 @@
 // Points put in their places in a rising list, each once.
+#![tactic(auto)]
+
 ghost use Rattle.std.specs.Prelude.{◌≡◌, ◌+◌, ◌*◌, ◌≤◌, length};
 ghost use Rattle.geometry.specs.Points.{first_points};
 ghost use Rattle.point_lists.specs.Rising.{insert};

@@ -1,4 +1,6 @@
 // Stored cases of sheets run under an allowance (tests/README.md): each is given its bytes, and what the call answers and leaves is printed.
+#![tactic(auto)]
+
 use sheet_run::Ran;
 
 fn run(sheet: &[u8], allowance: u64, buffer: &mut [u8], numbers: &mut [u16]) {

@@ -1,4 +1,6 @@
 // One glyph of a sheet run under an allowance of tests (02, item 12).
+#![tactic(auto)]
+
 ghost use Rattle.std.specs.Prelude.{◌≡◌, true, ◌+◌, ◌*◌, ◌≤◌, length};
 ghost use Rattle.answers.specs.Outcome.{given, number_of};
 ghost use Rattle.geometry.specs.Plane.{members, numbers};

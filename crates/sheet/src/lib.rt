@@ -1,4 +1,6 @@
 // The sheet opener: where glyph k of a sheet lies, and its bytes (01, "A sheet", "Glyph k").
+#![tactic(auto)]
+
 ghost use Rattle.std.specs.Prelude.{◌≡◌, ◌+◌, ◌*◌, ◌≤◌, length};
 ghost use Rattle.sheet.specs.Sheet.{glyph_of, outcome, part_of, part_at};
 

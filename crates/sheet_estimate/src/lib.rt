@@ -1,4 +1,6 @@
 // What a sheet will take, said before it is run (02, item 13): no disk is worked out.
+#![tactic(auto)]
+
 ghost use Rattle.std.specs.Prelude.{◌≡◌, ◌≤◌, length};
 ghost use Rattle.answers.specs.Outcome.{given};
 ghost use Rattle.answers.specs.Lent.{front_put};

@@ -1,5 +1,7 @@
 // The sheet listing program: reads a sheet from standard input and prints a line a glyph, of a run or of what it will take. Its argument
 // is the allowance of tests, in decimal digits, or the word estimate; without one it is the greatest allowance that a run takes.
+#![tactic(auto)]
+
 ghost use Rattle.std.specs.Prelude.{◌≤◌};
 
 mod estimate;

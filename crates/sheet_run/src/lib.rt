@@ -1,4 +1,6 @@
 // A whole sheet worked under one allowance of tests (02, item 12).
+#![tactic(auto)]
+
 ghost use Rattle.std.specs.Prelude.{◌≡◌, ◌≤◌, length};
 ghost use Rattle.answers.specs.Outcome.{given};
 ghost use Rattle.answers.specs.Lent.{front_put};

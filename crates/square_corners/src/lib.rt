@@ -1,4 +1,6 @@
 // Traced points in a list of numbers, x, y and t by turns, and the corners of their squares laid out as a list of points.
+#![tactic(auto)]
+
 ghost use Rattle.std.specs.Prelude.{◌≡◌, ◌++◌, ◌+◌, ◌*◌, ◌/◌, ◌%◌, ◌≤◌, length};
 ghost use Rattle.geometry.specs.Points.{points, first_points};
 ghost use Rattle.tracings.specs.Squares.{traced, corners, all_corners};

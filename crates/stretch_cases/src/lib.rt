@@ -1,4 +1,6 @@
 // Stored cases of the widest stretch of a list (tests/README.md): each is given its bytes, and what the call answers and leaves is printed.
+#![tactic(auto)]
+
 use stretches::Stretch;
 use widest_stretch::Stretched;
 

@@ -1,4 +1,6 @@
 // The first support set of a list (01: the first rim set): a search through the points on the boundary of the smallest disk.
+#![tactic(auto)]
+
 ghost use Rattle.std.specs.Prelude.{◌≡◌, ◌*◌, ◌/◌, ◌≤◌, length};
 ghost use Rattle.geometry.specs.Plane.{members, numbers};
 ghost use Rattle.geometry.specs.Points.{points, first_points};

@@ -1,4 +1,6 @@
 // The search for the first set of points that passes its test (01: the first rim set): through single points, pairs and triples.
+#![tactic(auto)]
+
 ghost use Rattle.std.specs.Prelude.{◌≡◌, ◌*◌, ◌≤◌, length};
 ghost use Rattle.geometry.specs.Plane.{members, numbers};
 ghost use Rattle.geometry.specs.Points.{first_points};

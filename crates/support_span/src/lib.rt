@@ -1,4 +1,6 @@
 // Points that the search for the first support set can leave out: those between two opposite points of the boundary.
+#![tactic(auto)]
+
 ghost use Rattle.std.specs.Prelude.{◌≡◌, ◌*◌, ◌≤◌, length};
 ghost use Rattle.geometry.specs.Points.{first_points};
 ghost use Rattle.point_lists.specs.Sets.{In};

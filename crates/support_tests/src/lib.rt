@@ -1,4 +1,6 @@
 // The tests of one to three points against a disk: on its boundary, the ends of a diameter, a triangle with acute angles.
+#![tactic(auto)]
+
 ghost use Rattle.std.specs.Prelude.{◌≡◌, pos, ◌-ℤ◌, ◌*ℤ◌};
 ghost use Rattle.geometry.specs.Plane.{numbers};
 ghost use Rattle.support_tests.specs.Tests.{on_boundary_test, midway, opposite, acute_at, acute, SmallPair, SmallDisk};

@@ -1,4 +1,6 @@
 // Stored cases of lists of traced points (tests/README.md): each is given its bytes, and what the call answers and leaves is printed.
+#![tactic(auto)]
+
 use traced_points::Traced;
 
 fn solve(list: &[i16]) {

@@ -2,6 +2,8 @@
 //
 // A disk holds a square exactly where it holds the square's four corners. So the corners of all squares are laid out as a list of points, and
 // Welzl's procedure runs on them.
+#![tactic(auto)]
+
 ghost use Rattle.std.specs.Prelude.{◌≡◌, ◌*◌, ◌/◌, ◌%◌, ◌≤◌, pos, ◌+ℤ◌, ◌-ℤ◌, length};
 ghost use Rattle.integers.specs.Order.{◌≼◌, between, Within};
 ghost use Rattle.geometry.specs.EmBox.{all_in_em_box};

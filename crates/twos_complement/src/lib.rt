@@ -1,4 +1,6 @@
 // Signed numbers as bits, in two's complement, for every width from 1 byte to 8 (01: "signed").
+#![tactic(auto)]
+
 ghost use Rattle.std.specs.Prelude.{◌≡◌, ◌+◌, ◌<◌};
 ghost use Rattle.std.specs.Int.Signed.{mag};
 ghost use Rattle.twos_complement.specs.Twos.{Width, half, twos, back};

@@ -1,4 +1,6 @@
 // Whether a record can hold a disk and a support set (01, "A valid record has .."): one function a rule, by limits that each is given.
+#![tactic(auto)]
+
 ghost use Rattle.std.specs.Prelude.{◌≡◌, ◌≤◌};
 ghost use Rattle.geometry.specs.EmBox.{all_in_box};
 ghost use Rattle.geometry.specs.Plane.{members, numbers};

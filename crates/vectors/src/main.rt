@@ -1,4 +1,6 @@
 // Runs the stored cases (tests/README.md): each names a call and gives it its bytes; what the calls answer and leave is printed.
+#![tactic(auto)]
+
 use geometry::{Disk, SupportSet};
 use wide_numbers::Wide;
 

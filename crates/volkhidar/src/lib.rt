@@ -1,5 +1,7 @@
 // The library for C and Rust programs: the calls of include/volkhidar.h, over numbers, structs of numbers and slices. Each promises the
 // definition of the call that it exports, and is the call of a crate of its own.
+#![tactic(auto)]
+
 ghost use Rattle.std.specs.Prelude.{◌≡◌};
 ghost use Rattle.description.specs.Description as description;
 ghost use Rattle.drawn_points.specs.Appending as drawn;

@@ -1,4 +1,6 @@
 // Welzl's move-to-front procedure on a list of points (000: B_MTFDISK; 01, "Welzl's procedure and the count").
+#![tactic(auto)]
+
 ghost use Rattle.std.specs.Prelude.{◌≡◌};
 ghost use Rattle.geometry.specs.Points.{points, flat};
 ghost use Rattle.disks.specs.Procedure.{disk_of, tests_of, order_of};

@@ -1,4 +1,6 @@
 // Floats that stand for whole numbers (02, item 2).
+#![tactic(auto)]
+
 ghost use Rattle.std.specs.Prelude.{◌≡◌};
 ghost use Rattle.std.specs.Float.Ieee.Scale.{finite};
 ghost use Rattle.whole_floats.specs.Near.{near_of, outcome};

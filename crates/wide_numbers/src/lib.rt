@@ -1,4 +1,6 @@
 // Whole numbers of 128 bits in two words: products, sums, comparisons and decimal digits.
+#![tactic(auto)]
+
 ghost use Rattle.std.specs.Prelude.{◌≡◌, ◌+◌, ◌*◌, ◌^◌, ◌<◌, pos, ◌+ℤ◌, ◌*ℤ◌, ◌==◌, nat_le, nat_lt};
 ghost use Rattle.wide_numbers.specs.Value.{value};
 

@@ -2,6 +2,8 @@
 //
 // The ends of a widest stretch are corners of the convex hull. So a long list is reduced to its hull first, in a copy; for a short one this
 // would take longer than all its pairs.
+#![tactic(auto)]
+
 ghost use Rattle.std.specs.Prelude.{◌≡◌, ◌≤◌, length};
 ghost use Rattle.geometry.specs.Points.{points};
 ghost use Rattle.stretches.specs.Widest.{widest_of};
