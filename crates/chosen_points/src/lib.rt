@@ -14,7 +14,7 @@ use fixed_points::Boundary;
 use geometry::{Disk, Point};
 
 // 02: the chosen corners.
-#[derive(Drop)]
+#[derive(Clone, Copy)]
 pub enum Chosen {
     One(Point),
     Two(Point, Point),

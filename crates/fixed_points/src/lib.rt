@@ -10,7 +10,7 @@ use geometry::Point;
 use relative_disks::RelativeDisk;
 
 // The one added last comes first.
-#[derive(Drop)]
+#[derive(Clone, Copy)]
 pub enum Boundary {
     None,
     One(Point),

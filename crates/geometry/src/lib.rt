@@ -10,7 +10,7 @@ use wide_numbers::Wide;
 
 // 01: a corner.
 #[repr(C)]
-#[derive(Drop)]
+#[derive(Clone, Copy)]
 pub struct Point {
     pub x: i16,
     pub y: i16,
@@ -18,7 +18,7 @@ pub struct Point {
 
 // Centre (x/e, y/e), squared radius s/e² (01: X, Y, E, S).
 #[repr(C)]
-#[derive(Drop)]
+#[derive(Clone, Copy)]
 pub struct Disk {
     pub x: i64,
     pub y: i64,
@@ -27,7 +27,7 @@ pub struct Disk {
 }
 
 // The box that points lie in, x from left to right and y from foot to top, the largest E and the largest S/E².
-#[derive(Drop)]
+#[derive(Clone, Copy)]
 pub struct Limits {
     pub left: i64,
     pub right: i64,
@@ -38,7 +38,7 @@ pub struct Limits {
 }
 
 // Points whose own smallest disk is that of the whole list (01: a rim set).
-#[derive(Drop)]
+#[derive(Clone, Copy)]
 pub enum SupportSet {
     One(Point),
     Two(Point, Point),

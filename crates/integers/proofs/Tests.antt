@@ -67,6 +67,7 @@ same_test false false f g = refl
 
 pub test_true : (b : Bool) → T b → b ≡ true
 test_true true t = refl
+test_true false t = elim t [ ]
 
 pub true_test : {b : Bool} → b ≡ true → T b
 true_test e = subst T (sym e) tt

@@ -26,6 +26,7 @@ either_test true b t = inl tt
 either_test false b t = inr t
 
 first_test : (a b : Bool) → T a → T (a || b)
+first_test false b t = elim t [ ]
 first_test true b t = tt
 
 second_test : (a b : Bool) → T b → T (a || b)

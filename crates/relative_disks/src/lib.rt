@@ -7,7 +7,7 @@ ghost use Rattle.relative_disks.specs.Relative.{Coordinates, Differences, Near, 
 use geometry::Point;
 
 // Its centre is q + g/e. The empty disk has e = 0, and a q outside the em box. Three points in a row have e = 0 and g = 0.
-#[derive(Drop)]
+#[derive(Clone, Copy)]
 pub struct RelativeDisk {
     pub e: i64,
     pub qx: i64,

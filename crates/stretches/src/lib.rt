@@ -4,7 +4,7 @@
 use geometry::Point;
 
 // A pair of points, a no later than b in rising order, and the square of their distance (02: W).
-#[derive(Drop)]
+#[derive(Clone, Copy)]
 pub struct Stretch {
     pub a: Point,
     pub b: Point,

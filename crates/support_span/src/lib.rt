@@ -11,7 +11,7 @@ ghost use Rattle.support_span.specs.Span.{strictly_within, Spans};
 use geometry::{Disk, Point};
 
 // The x of two opposite points of the boundary. No point with an x strictly between them is in the first support set.
-#[derive(Drop)]
+#[derive(Clone, Copy)]
 pub struct Span {
     pub lo: i16,
     pub hi: i16,

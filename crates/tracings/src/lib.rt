@@ -3,7 +3,7 @@
 
 
 // A point that was read at (x, y) and is known only to within t units, in x and in y (02: a traced corner).
-#[derive(Drop)]
+#[derive(Clone, Copy)]
 pub struct TracedPoint {
     pub x: i16,
     pub y: i16,

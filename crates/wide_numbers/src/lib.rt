@@ -12,7 +12,7 @@ const SMALL: u64 = 2_147_483_648;
 
 // hi * 2^64 + lo
 #[repr(C)]
-#[derive(Drop)]
+#[derive(Clone, Copy)]
 pub struct Wide {
     pub hi: u64,
     pub lo: u64,

@@ -1,8 +1,8 @@
 -- `wide_numbers::product` meets its contract. The halves are below 2^32, so a product of two and a column's sum fit a word.
-use Rattle.std.proofs.Common.{◌≡◌, ℕ, ◌+◌, ◌-◌, ◌*◌, ◌/◌, ◌%◌, ◌^◌, ◌≤◌, [], ◌∷◌, ℤ, pos, ◌+ℤ◌, ◌*ℤ◌, nat_abs, sym, ap, ◌∙◌, ap₂, mul-le-mul, div-add-mod', arith, rules}
+use Rattle.std.proofs.Common.{◌≡◌, ℕ, ◌+◌, ◌-◌, ◌*◌, ◌/◌, ◌%◌, ◌^◌, ◌≤◌, [], ◌∷◌, ℤ, pos, ◌+ℤ◌, ◌*ℤ◌, nat_abs, sym, ap, ◌∙◌, ap₂, mul-le-mul, div-add-mod', arith}
 use Rattle.integers.proofs.Ring.{ring, poly}
-use Rattle.wide_numbers.proofs.product.Statement.{statement}
-use Rattle.wide_numbers.proofs.product.Tie as tie
+use Rattle.wide_numbers.proofs.product.Goals as goal
+use Rattle.wide_numbers.proofs.product.Goals.{Start}
 
 -- ---- the columns make the product
 
@@ -21,7 +21,7 @@ cut u v =
 
 -- ---- the sizes
 
-module _ (c : tie.Start) where
+module _ (c : Start) where
   abbrev u : ℕ
   u = c.args.u
 
@@ -40,55 +40,33 @@ module _ (c : tie.Start) where
   v_high : v / 2 ^ 32 ≤ 2 ^ 32 - 1
   v_high = omega arith
 
-mul_low : tie.Need-overflow-mul-low
-mul_low c = omega (arith, mul-le-mul (u_low c) (v_low c))
+pub overflow_mul-low : goal.overflow_mul-low
+overflow_mul-low c = omega (arith, mul-le-mul (u_low c) (v_low c))
 
-mul-middle : tie.Need-overflow-mul-middle
-mul-middle c = omega (arith, mul-le-mul (u_high c) (v_low c))
+pub overflow_mul-middle : goal.overflow_mul-middle
+overflow_mul-middle c = omega (arith, mul-le-mul (u_high c) (v_low c))
 
-add-middle : tie.Need-overflow-add-middle
-add-middle c = omega (arith, mul-le-mul (u_high c) (v_low c), mul-le-mul (u_low c) (v_low c))
+pub overflow_add-middle : goal.overflow_add-middle
+overflow_add-middle c = omega (arith, mul-le-mul (u_high c) (v_low c), mul-le-mul (u_low c) (v_low c))
 
-mul_next : tie.Need-overflow-mul-next
-mul_next c = omega (arith, mul-le-mul (u_low c) (v_high c))
+pub overflow_mul-next : goal.overflow_mul-next
+overflow_mul-next c = omega (arith, mul-le-mul (u_low c) (v_high c))
 
-add-next : tie.Need-overflow-add-next
-add-next c = omega (arith, mul-le-mul (u_low c) (v_high c))
+pub overflow_add-next : goal.overflow_add-next
+overflow_add-next c = omega (arith, mul-le-mul (u_low c) (v_high c))
 
-mul-t10 : tie.Need-overflow-mul-t10
-mul-t10 c = omega (arith, mul-le-mul (u_high c) (v_high c))
+pub overflow_mul-result : goal.overflow_mul-result
+overflow_mul-result c = omega (arith, mul-le-mul (u_high c) (v_high c))
 
-add-t12 : tie.Need-overflow-add-t12
-add-t12 c = omega (arith, mul-le-mul (u_high c) (v_high c), mul-le-mul (u_high c) (v_low c), mul-le-mul (u_low c) (v_low c))
+pub overflow_add-result : goal.overflow_add-result
+overflow_add-result c = omega (arith, mul-le-mul (u_high c) (v_high c), mul-le-mul (u_high c) (v_low c), mul-le-mul (u_low c) (v_low c))
 
-add-t14 : tie.Need-overflow-add-t14
-add-t14 c =
+pub overflow_add-result-2 : goal.overflow_add-result-2
+overflow_add-result-2 c =
     omega (arith, mul-le-mul (u_high c) (v_high c), mul-le-mul (u_high c) (v_low c), mul-le-mul (u_low c) (v_high c), mul-le-mul (u_low c) (v_low c))
 
-mul-t16 : tie.Need-overflow-mul-t16
-mul-t16 c = search rules
-
-add-t18 : tie.Need-overflow-add-t18
-add-t18 c = search rules
-
-returns : tie.Need-returns
+pub returns : goal.returns
 returns c =
     let u = c.args.u in
     let v = c.args.v in
     columns (u / 2 ^ 32 * (v / 2 ^ 32)) (u / 2 ^ 32 * (v % 2 ^ 32)) (u % 2 ^ 32 * (v / 2 ^ 32)) (u % 2 ^ 32 * (v % 2 ^ 32)) ∙ cut u v
-
-pub product-spec : {M : Type 1} → statement M
-product-spec =
-    tie.close
-    (tie.spec
-    mul_low
-    mul-middle
-    add-middle
-    mul_next
-    add-next
-    mul-t10
-    add-t12
-    add-t14
-    mul-t16
-    add-t18
-    returns)
