@@ -116,7 +116,7 @@ left_over S (p ∷ ps) = go (has S p) refl (left_over S ps)
       point = l.point;
       back = l.back;
       whole = ap (λ (qs : List Point). p ∷ qs) l.whole;
-      not_there_lem = l.not_there;
+      not_there_lem = l.not_there_lem;
     }
 
     go : (b : Bool) → has S p ≡ b → AllOrNot S ps → AllOrNot S (p ∷ ps)
@@ -133,7 +133,7 @@ module _ {d : Disk} {ps : List Point} (b : Belong d ps) (r : Rising ps) (some : 
       (λ x i. subst (In x) (sym l.whole) (fewer_in l.front l.point l.back x i)))
     where
       behind : (x : Point) → In x S → (x ≡ l.point) ⊎ In x l.back → In x l.back
-      behind x i (inl e) = absurd (l.not_there (subst (λ (y : Point). In y S) e i))
+      behind x i (inl e) = absurd (l.not_there_lem (subst (λ (y : Point). In y S) e i))
       behind x i (inr k) = k
 
       kept : (x : Point) → In x S → In x l.front ⊎ In x (l.point ∷ l.back) → In x (l.front ++ l.back)
