@@ -1,5 +1,5 @@
 use mathlib.Core.Path.{◌≡◌, sym, ap, ap₂, subst, ◌∙◌}
-use mathlib.Core.List.{List, ◌∷◌, ◌++◌, []}
+use mathlib.Core.List.{◌∷◌, ◌++◌, []}
 use Prim.Native.Nat.{◌+◌}
 use native.Mathlib.Omega.{arith}
 use lib.Dec.{T}
@@ -12,9 +12,9 @@ use Rattle.geometry.specs.declared.Point.{Point}
 use Rattle.geometry.specs.EmBox.{em, Inside}
 use Rattle.geometry.specs.Points.{points, point_at, first_points}
 use Rattle.geometry.proofs.EmBox.{all_inside}
-use Rattle.geometry.proofs.PointLists.{first_points_next, first_points-whole}
+use Rattle.geometry.proofs.PointLists.{first_points_next}
 use Rattle.geometry.proofs.PointRows.{point_at_in}
-use Rattle.columns.specs.Columns.{lesser, greater, kept_at, Columns, Seen}
+use Rattle.columns.specs.Columns.{lesser, greater, kept_at}
 use Rattle.columns.proofs.ColumnLaws.{box_column, columns_next, seen_next}
 use Rattle.columns.proofs.columns.Goals as goal
 use Rattle.columns.proofs.columns.Goals.{After-struct_told-1}
@@ -41,9 +41,6 @@ pub loop-i-init : goal.loop-i-init
 unfolding points
 loop-i-init c = (omega arith, c.requires.columns.0, c.requires.columns.1)
 
-pub point_at-p-requires : goal.point_at-p-requires
-point_at-p-requires c = omega (arith, c.loop-i-test.true)
-
 pub overflow_cast-x : goal.overflow_cast-x
 overflow_cast-x c = (
   subst (λ (z : ℤ). T (non_neg z)) (sym (x_is c)) (yes_non_neg (boxed c).from_left),
@@ -64,10 +61,6 @@ pub bounds-seen-x : goal.bounds-seen-x
 bounds-seen-x c =
     let here = (goal.at.bounds-seen-x c).After-struct_told-1 in
     omega (arith, column_is here, box_column (p here) (boxed here), c.loop-i.invariant.2.groups)
-
-pub loop-i-smaller : goal.loop-i-smaller
-loop-i-smaller c =
-    omega (arith, c.loop-i-test.true)
 
 pub loop-i-preserved : goal.loop-i-preserved
 loop-i-preserved c =
@@ -90,10 +83,3 @@ loop-i-preserved c =
       rw (read, low_is, high_is) (columns_next c.loop-i.invariant.1 (p here) (boxed here)),
       rw (read, column_is here) (seen_next c.loop-i.invariant.2 (p here) (boxed here)),
     )
-
-pub returns : goal.returns
-returns c =
-    let l = c.loop-i in
-    let list = c.args.list.now in
-    let all = first_points-whole l.i list (omega (arith, l.invariant.0)) (omega (arith, c.loop-i-test.false)) in
-    (subst (λ (P : List Point). Columns P l.low l.high) all l.invariant.1, subst (λ (P : List Point). Seen P l.seen) all l.invariant.2)

@@ -1,8 +1,8 @@
-use mathlib.Core.Path.{◌≡◌, ap, subst, ◌∙◌}
+use mathlib.Core.Path.{◌≡◌, ap, ◌∙◌}
 use Prim.Native.Nat.{ℕ, ◌+◌, ◌*◌, ◌/◌, ◌≤◌, ◌<◌}
 use native.Mathlib.Omega.{arith}
 use lib.ListN.{get_or}
-use Rattle.columns.specs.Columns.{Written, column_count, group_count}
+use Rattle.columns.specs.Columns.{Written, group_count}
 use Rattle.columns.proofs.Writing.{written_none, moved, gap}
 use Rattle.columns.proofs.put_columns.Goals as goal
 use Rattle.columns.proofs.put_columns.Goals.{then-seen-g-eq1, else-seen-g-eq1}
@@ -10,17 +10,6 @@ use Rattle.columns.proofs.put_columns.Goals.{then-seen-g-eq1, else-seen-g-eq1}
 pub loop-g-init : goal.loop-g-init
 loop-g-init c =
     (omega arith, omega arith, written_none c.args.low.now c.args.high.now c.args.lows.now c.args.highs.now c.requires.low_len.3 c.requires.low_len.4)
-
-pub bounds-seen-g : goal.bounds-seen-g
-bounds-seen-g c = omega (arith, c.loop-g-test.true, c.requires.low_len.2)
-
-pub put_group-m-requires : goal.put_group-m-requires
-put_group-m-requires c =
-    let l = c.loop-g in
-    (omega (arith, c.loop-g-test.true), l.invariant.1, c.requires.low_len.0, c.requires.low_len.1, l.invariant.2)
-
-pub loop-g-smaller : goal.loop-g-smaller
-loop-g-smaller c = omega (arith, c.loop-g-test.true)
 
 group : {g j : ℕ} → 16 * g ≤ j → j < 16 * (g + 1) → g ≡ j / 16
 group h k = omega arith
@@ -42,9 +31,3 @@ loop-g-preserved c =
       )
     ] in
     (omega (arith, more), step.0, step.1)
-
-pub returns : goal.returns
-returns c =
-    let l = c.loop-g in
-    let all : 16 * l.g ≡ column_count = omega (arith, l.invariant.0, c.loop-g-test.false) in
-    (omega (arith, l.invariant.1, all), subst (λ (k : ℕ). Written k l.m c.args.low.now c.args.high.now l.lows l.highs) all l.invariant.2)
