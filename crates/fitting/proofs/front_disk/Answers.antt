@@ -5,7 +5,6 @@ use mathlib.Core.List.Permᴰ
 use mathlib.Core.List.{List, [], ◌∷◌}
 use Prim.Native.Nat.{ℕ, ◌*◌, ◌≤◌, ◌<◌}
 use native.Mathlib.Omega.{arith}
-use borrow.Author.Rules.{rules}
 use lib.IntN.{ℤ, pos}
 use lib.ListN.{length}
 use lib.Signed.{◌≤ℤ◌, ◌<ℤ◌, lt_z}
@@ -31,12 +30,12 @@ use Rattle.inner_level.proofs.RanLaws.{ran_left}
 use Rattle.fitting.specs.Decides.{Found, NoneFits, Permuted}
 use Rattle.fitting.proofs.FrontDisks.{members_most, flat_none, outside_none, held_found}
 use Rattle.fitting.proofs.Fronts.{front_run, permuted_boxed, each_first}
-use Rattle.fitting.proofs.front_disk.Statement.{statement}
-use Rattle.fitting.proofs.front_disk.Tie as tie
+use Rattle.fitting.proofs.front_disk.Goals as goal
+use Rattle.fitting.proofs.front_disk.Goals.{After-mtf-run, Start}
 
 -- what the call of the procedure says of the first k points
-module _ (c : tie.After-mtf) where
-  abbrev start : tie.Start
+module _ (c : After-mtf-run) where
+  abbrev start : Start
   start = c.before.before
 
   abbrev l : List ℤ
@@ -52,22 +51,22 @@ module _ (c : tie.After-mtf) where
   Q = first_points k l
 
   abbrev d : RelativeDisk
-  d = c.mtf.result.disk
+  d = c.mtf-run.result.disk
 
   abbrev after : List ℤ
-  after = c.mtf.new.0
+  after = c.mtf-run.new.list
 
   asked : Given R k l
-  asked = start.pre.1.0
+  asked = start.requires.fact_2
 
-  ran : Ran R k l after d c.mtf.result.tests
-  ran = c.mtf.ensures
+  ran : Ran R k l after d c.mtf-run.result.tests
+  ran = c.mtf-run.ensures
 
   order : Permuted l after
   order = front_run k l after (mtf (members R) Q).left asked.fits (run_permuted R Q) ran.left_is
 
   left : first_points k after ≡ (mtf (members R) Q).left
-  left = ran_left R k l after d c.mtf.result.tests asked.fits ran
+  left = ran_left R k l after d c.mtf-run.result.tests asked.fits ran
 
   fits : 2 * k ≤ length after
   fits = omega (arith, asked.fits, order.same_length)
@@ -79,18 +78,18 @@ module _ (c : tie.After-mtf) where
   from_left p i = perm_in (run_permuted R Q) (subst (In p) left i)
 
   flat : d.e ≤ℤ pos 0 → NoneFits (members R) Q
-  flat = flat_none (members R) Q (members_most R) start.pre.0.some start.pre.0.different asked.list_boxed d ran.disk_is
+  flat = flat_none (members R) Q (members_most R) start.requires.fact_1.some start.requires.fact_1.different asked.list_boxed d ran.disk_is
 
   outside : (i : ℕ) → i < k → is_outside d (point_at after i) ≡ true → NoneFits (members R) Q
-  outside i h = outside_none (members R) Q (members_most R) start.pre.0.some start.pre.0.different asked.list_boxed d ran.disk_is
+  outside i h = outside_none (members R) Q (members_most R) start.requires.fact_1.some start.requires.fact_1.different asked.list_boxed d ran.disk_is
       (point_at after i) (from_left (point_at after i) (point_at-first_points i k after h fits))
 
   held : pos 0 <ℤ d.e → ((i : ℕ) → i < k → is_outside d (point_at after i) ≡ false) → Found (members R) Q d
-  held h all = held_found (members R) Q (members_most R) start.pre.0.some start.pre.0.different asked.list_boxed d ran.disk_is h
+  held h all = held_found (members R) Q (members_most R) start.requires.fact_1.some start.requires.fact_1.different asked.list_boxed d ran.disk_is h
       (λ p i. each_first (λ (q : Point). is_outside d q ≡ false) k after fits all p (to_left p i))
 
 -- e as the machine reads it
-weight : (c : tie.After-mtf) → to_z w64 (of_z w64 (d c).e) ≡ (d c).e
+weight : (c : After-mtf-run) → to_z w64 (of_z w64 (d c).e) ≡ (d c).e
 weight c = leaf_back w64 (d c).e em.scale (ran c).disk_is.small.e_small tt
 
 below_one : {z : ℤ} → z <ℤ pos 1 → z ≤ℤ pos 0
@@ -99,51 +98,24 @@ below_one {z} h = nonneg (z ∷ []) (lt h) (search poly depth 30) tt
 from_one : {z : ℤ} → pos 1 ≤ℤ z → pos 0 <ℤ z
 from_one {z} h = positive (z ∷ []) (le h) (search poly depth 30) tt
 
-mtf-requires : tie.Need-mtf-requires
-mtf-requires c κs = search rules
+pub returns-then-d-lt1 : goal.returns-then-d-lt1
+returns-then-d-lt1 c =
+    record { fit = flat (goal.at.returns-then-d-lt1 c).After-mtf-run (below_one (lt_true (d (goal.at.returns-then-d-lt1 c).After-mtf-run).e (pos 1) (ap (λ (z : ℤ). lt_z z (pos 1)) (sym (weight (goal.at.returns-then-d-lt1 c).After-mtf-run)) ∙ c.if-d-lt1.true))); order = order (goal.at.returns-then-d-lt1 c).After-mtf-run }
 
-same_length : tie.Need-same-length
-same_length c = search rules
+pub first_outside-requires : goal.first_outside-requires
+first_outside-requires c =
+    record { fact_1 = (omega arith, fits (goal.at.first_outside-requires c).After-mtf-run); fact_2 = (ran (goal.at.first_outside-requires c).After-mtf-run).disk_is.small; fact_3 = permuted_boxed (order (goal.at.first_outside-requires c).After-mtf-run) (start (goal.at.first_outside-requires c).After-mtf-run).requires.fact_3 }
 
-returns : tie.Need-returns
+pub returns-then-first_outside-k : goal.returns-then-first_outside-k
+returns-then-first_outside-k c =
+    let s = (goal.at.returns-then-first_outside-k c).After-mtf-run in
+    let first = c.first_outside in
+    let h = c.if-first_outside-k.true in
+    record { fit = outside s first.result h (first.ensures.outside_there h); order = order s }
+
+pub returns : goal.returns
 returns c =
-    let m = c.before.before.before.before.before in
-    (flat m (below_one (lt_true (d m).e (pos 1) (ap (λ (z : ℤ). lt_z z (pos 1)) (sym (weight m)) ∙ c.if1.true))), order m)
-
-first-outside-requires : tie.Need-first-outside-requires
-first-outside-requires c κs =
-    let m = c.before.before.before.before.before.before in
-    ((omega arith, fits m), ((ran m).disk_is.small, permuted_boxed (order m) (start m).requires.1.1))
-
-same-length-2 : tie.Need-same-length-2
-same-length-2 c = search rules
-
-returns-2 : tie.Need-returns-2
-returns-2 c =
-    let m = c.before.before.before.before.before.before.before.before in
-    let first = c.before.first-outside in
-    let h = c.if2.true in
-    (outside m first.result h (first.ensures.outside_there h), order m)
-
-same-length-3 : tie.Need-same-length-3
-same-length-3 c = search rules
-
-returns-3 : tie.Need-returns-3
-returns-3 c =
-    let m = c.before.before.before.before.before.before.before.before in
-    let first = c.before.first-outside in
-    let some = from_one (lt_false (d m).e (pos 1) (ap (λ (z : ℤ). lt_z z (pos 1)) (sym (weight m)) ∙ c.before.before.before.if1.false)) in
-    (held m some (λ i h. first.ensures.held_before i (omega arith) (omega (arith, h, c.if2.false))), order m)
-
-pub front-disk-spec : {M : Type 1} → statement M
-front-disk-spec =
-    tie.close
-    (tie.spec
-    mtf-requires
-    same_length
-    returns
-    first-outside-requires
-    same-length-2
-    returns-2
-    same-length-3
-    returns-3)
+    let s = (goal.at.returns c).After-mtf-run in
+    let first = c.first_outside in
+    let some = from_one (lt_false (d s).e (pos 1) (ap (λ (z : ℤ). lt_z z (pos 1)) (sym (weight s)) ∙ c.if-d-lt1.false)) in
+    record { fit = held s some (λ i h. first.ensures.held_before i (omega arith) (omega (arith, h, c.if-first_outside-k.false))); order = order s }
