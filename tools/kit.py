@@ -30,7 +30,7 @@ def library(name):
     return pathlib.Path("crates", name, "out", "rlib", f"{name}.rlib").resolve()
 
 
-def words(command, name, folder):
+def words(command, name, folder, jobs=2):
     """What `rattle` is given to check or build the crate NAME, whose src/, specs/ and proofs/ stand in the folder."""
     kit, every = home(), listed()
     root = next(folder / "src" / file for file in ("lib.rt", "main.rt") if (folder / "src" / file).exists())
@@ -39,4 +39,4 @@ def words(command, name, folder):
         yield from ["--extern", f"{used}={library(used) if used in every else kit / 'rlibs' / f'{used}.rlib'}"]
     for used in sorted(below(name, every)):
         yield from ["-L", f"dependency={library(used).parent}"]
-    yield from ["--antt-project", kit / "rattle" / "logic" / "antt-project.json", "--logic-built", kit / "logic_built", "--jobs", "2"]
+    yield from ["--antt-project", kit / "rattle" / "logic" / "antt-project.json", "--logic-built", kit / "logic_built", "--jobs", str(jobs)]
