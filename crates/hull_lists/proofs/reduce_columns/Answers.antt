@@ -16,7 +16,6 @@ use Rattle.hull_lists.specs.Enclosed.{enclosed}
 use Rattle.joined_chains.specs.Laid.{laid}
 use Rattle.columns.specs.Columns.{side, column_count, side_length}
 use Rattle.hull_chains.proofs.Spanning.{points_most}
-use Rattle.columns.proofs.ColumnLaws.{unseen}
 use Rattle.columns.proofs.SideLaws.{sides_are, sides_some}
 use Rattle.hull_lists.proofs.Enclosing.{enclosed_only}
 use Rattle.hull_lists.proofs.reduce_columns.Goals as goal
@@ -43,12 +42,6 @@ module _ (c : After-put_columns-m) where
   some : 1 ≤ m
   some = omega
       (arith, c.put_columns-m.ensures.1.count, sides_some c.requires.1 (all_inside P c.requires.0.boxed) (points_some c.args.list.now c.requires.0.some))
-
-pub put_columns-m-requires : goal.put_columns-m-requires
-put_columns-m-requires c = record {
-  low_len = (c.requires.1.low_size, c.requires.1.high_size, c.requires.2.groups, length-replicate side_length (pos 0), length-replicate side_length (pos 0));
-  by_index = unseen c.requires.1 c.requires.2;
-}
 
 pub lay-requires : goal.lay-requires
 lay-requires c =
