@@ -24,20 +24,6 @@ loop-i-init c =
           ∙ append-nil (first_points k c.args.list.now)),
     )
 
-pub point_at-p-requires : goal.point_at-p-requires
-point_at-p-requires c = omega (arith, c.loop-i-test.true, c.requires.1)
-
-pub put_point-requires : goal.put_point-requires
-put_point-requires c =
-    omega (arith, c.loop-i.invariant.0, c.loop-i.invariant.2, c.loop-i.invariant.3, c.loop-i-test.true, c.requires.2)
-
-pub overflow_add-n : goal.overflow_add-n
-overflow_add-n c =
-    omega (arith, c.loop-i.invariant.0, c.loop-i.invariant.2, c.loop-i-test.true, c.requires.2)
-
-pub loop-i-smaller : goal.loop-i-smaller
-loop-i-smaller c = omega (arith, c.loop-i-test.true)
-
 pub loop-i-preserved : goal.loop-i-preserved
 loop-i-preserved c =
     let a = c.args.a in

@@ -45,10 +45,6 @@ copy_points-m-requires c = (
       (arith, room (goal.at.copy_points-m-requires c).Start, c.copy_points-k.ensures.size, c.copy_points-k.auto.list),
 )
 
-pub overflow_mul-m : goal.overflow_mul-m
-overflow_mul-m c =
-    omega (arith, c.copy_points-m.ensures.size, c.copy_points-k.ensures.size, c.requires.n_in_bounds.2, c.requires.n_in_bounds.5)
-
 pub clear-requires : goal.clear-requires
 clear-requires c =
     let q = c.copy_points-m in
