@@ -6,9 +6,7 @@ use mir.Val.{SFits, to_z, of_z}
 use mir.Facts.{to_z-of_z}
 use Rattle.integers.specs.Order.{between}
 use Rattle.integers.proofs.Tests.{stop, pass}
-use Rattle.geometry.specs.declared.Point.{Point}
 use Rattle.geometry.proofs.Coordinates.{widened}
-use Rattle.geometry.specs.declared.Limits.{Limits}
 use Rattle.geometry.specs.EmBox.{in_box}
 use Rattle.geometry.proofs.in_box.Goals as goal
 use Rattle.geometry.proofs.in_box.Goals.{After-is_between}

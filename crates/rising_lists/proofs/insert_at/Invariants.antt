@@ -1,7 +1,7 @@
 -- `rising_lists::insert_at` meets its contract. The invariant: the first i points are in place, `held` comes next, and the rest is as it was.
 use mathlib.Core.Path.{◌≡◌}
 use mathlib.Core.List.{◌∷◌, ◌++◌}
-use Prim.Native.Nat.{◌+◌, ◌-◌, ◌*◌, ◌≤◌}
+use Prim.Native.Nat.{◌-◌, ◌*◌, ◌≤◌}
 use lib.ListN.{length, drop}
 use Rattle.geometry.specs.Points.{first_points}
 use Rattle.rising_lists.specs.Place.{inserted_at}

@@ -1,6 +1,6 @@
 -- `rising_lists::insert_point` meets its contract: the point goes in at the place that was found, or the list stays.
 use mathlib.Core.Path.{◌≡◌, sym, ap, ◌∙◌}
-use Prim.Native.Nat.{ℕ, ◌+◌, ◌≤◌}
+use Prim.Native.Nat.{ℕ, ◌+◌}
 use native.Mathlib.Omega.{arith}
 use lib.ListN.{length}
 use Rattle.geometry.specs.Points.{first_points}
