@@ -89,7 +89,8 @@ def unused(file, files, named):
 
 
 def main():
-    files = [File(path) for pattern in ("*.antt", "*.rt") for path in sorted(pathlib.Path("crates").rglob(pattern))]
+    paths = [path for part in ("src", "specs", "proofs") for path in sorted(pathlib.Path("crates").glob(f"*/{part}/**/*"))]
+    files = [File(path) for path in paths if path.suffix in (".antt", ".rt")]
     documents = [pathlib.Path("README.md"), *pathlib.Path("docs").rglob("*.md")]
     named = {name for path in documents for name in re.findall(r"`([^`\s]+)`", path.read_text())}
     found = [(f.path, *one) for f in files if f.crate in (sys.argv[1:] or [f.crate]) for one in unused(f, files, named)]
