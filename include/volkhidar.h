@@ -1,8 +1,8 @@
 /*
  * Volkhidar: the smallest disk that holds a letter's points, exact and proved.
  *
- * Build the library with `rt staticlib volkhidar` and link target/staticlib/libvolkhidar.a; nothing else is needed. README.md has one
- * command that builds and runs an example. The library is for x86-64 Linux.
+ * Build the library with `rt lib` in crates/volkhidar and link out/libvolkhidar.a of that folder; nothing else is needed. README.md has
+ * one command that builds and runs an example. The library is for x86-64 Linux.
  *
  * The functions are proved against their definitions for every input that this header allows, and for every such input they return.
  *

@@ -1,7 +1,7 @@
 #!/usr/bin/env python3
 """Draws a glyph of bench/data with the disk that the listing program finds for its points, as SVG on standard output:
 
-    tools/picture.py ampersand target/bin/listing > docs/ampersand.svg
+    tools/picture.py ampersand crates/listing/out/listing > docs/ampersand.svg
 
 The words behind the glyph's name are the listing program; it is given the description of the glyph's points. Everything about the disk
 comes from what it prints. A lens shows a support point on the boundary, and the cut: the circle of the whole radius, at most a unit

@@ -15,11 +15,13 @@ import sys
 
 # Never listed, and why.
 KEPT = {
-    r"\S+-spec|main": "the toolchain asks for it",
+    r"\S+[-_]spec|main": "the toolchain asks for it",
     r"volkhidar_\w+": "C and Rust call it",
 }
+# Files of a function's proof: each public name in them is a goal of the toolchain's.
+ANSWERS = ("Answers", "Invariants")
 
-IMPORT = re.compile(r"\s*(pub |ghost )?use (.*?)(?:\.\{(.*)\}| as ([^\s;]+))?;?$")
+IMPORT = re.compile(r"\s*(pub |ghost )?use (.*?)(?:(?:\.|::)\{(.*)\}| as ([^\s;]+))?;?$")
 SECTION = re.compile(r"\s*(module|infixl?|infixr|(pub )?mod) ")
 SIGNATURE = re.compile(r"((?:pub |abbrev |unfoldable )*)(?:(?:record|data) (?=.*\bwhere$)|ruleset |(?=\S+ :(?: |$)))([^\s(){}.,;]+)")
 ITEM = re.compile(r'(pub )?(?:extern "C" )?(?:fn|struct|enum|const) (\w+)')
@@ -31,6 +33,8 @@ class File:
     def __init__(self, path):
         self.path, self.rt, self.crate, self.module = path, path.suffix == ".rt", path.parts[1], ".".join(path.with_suffix("").parts[2:])
         self.imports, self.defined, self.words = [], [], collections.Counter()
+        # What an attribute names for the tactics, as using(crate::proofs::Runs::my_lemma).
+        self.cited = set(re.findall(r"\w+(?:::\w+)+", path.read_text())) if self.rt else set()
         own, indents, in_header = None, [0], False
         for number, line in enumerate(path.read_text().splitlines(), 1):
             line = re.sub(r"//.*$" if self.rt else r"(^|\s)--( .*)?$", "", line).rstrip()
@@ -57,26 +61,29 @@ class File:
         return words + [word for word in re.findall(r"\w+", line) if word not in words] if self.rt else words
 
     def has(self, name, besides=collections.Counter()):
-        """Whether a name occurs, one with gaps such as _+_ by its parts."""
-        parts = [name] if self.rt and name.isidentifier() else [part for part in name.split("_") if part]
+        """Whether a name occurs, one with gaps such as ◌+◌ by its parts."""
+        parts = [part for part in name.split("◌") if part]
         return self.words[name] > besides[name] or all(self.words[part] > besides[part] for part in parts)
 
     def takes(self, name, other):
         """Whether this file can name what the other calls so."""
+        if self.cited & {"::".join([crate, *other.module.split("."), name]) for crate in ("crate", other.crate)}:
+            return True
         if self.rt and other.rt:
             return self.crate == other.crate or bool(self.words[other.crate]) or any(i[2].startswith(other.crate + "::") for i in self.imports)
-        paths = ((re.sub(r"^Rattle·(\w+)(·\w+)?\.", r"\1.", path), names) for _, _, path, names, _ in self.imports)
+        paths = ((path.removeprefix("Rattle."), names) for _, _, path, names, _ in self.imports)
         return any(path == f"{other.crate}.{other.module}" and (not names or name in re.split(r",\s*", names)) for path, names in paths)
 
 
 def unused(file, files, named):
     for number, before, path, names, alias in file.imports:
-        for name in re.split(r",\s*(?:[^\s,]+ as )?", re.sub(r"^[^\s,]+ as ", "", names)) if names else [alias or path.split("::")[-1]]:
+        for name in re.split(r",\s*(?:[^\s,]+ as )?", re.sub(r"^[^\s,]+ as ", "", names)) if names else [alias or re.split(r"::|\.", path)[-1]]:
             if before != "pub " and not file.has(name):
                 yield number, f"{name} (imported)"
     for number, name, public, own in file.defined:
         others = (f for f in files if f is not file and (public or file.rt) and f.has(name) and f.takes(name, file))
-        is_kept = name in named or file.module.endswith("Examples") or any(re.fullmatch(kept, name) for kept in KEPT)
+        is_asked = public and not file.rt and file.module.split(".")[-1] in ANSWERS
+        is_kept = is_asked or name in named or file.module.endswith("Examples") or any(re.fullmatch(kept, name) for kept in KEPT)
         if not is_kept and not file.has(name, own) and not any(others):
             yield number, name
 

@@ -1,5 +1,5 @@
 //! Links the library of the C calls: from the directory that the variable `VOLKHIDAR_LIBRARY` names, or from the repository's
-//! `target/staticlib`, where `rt staticlib volkhidar` is asked to write it if it is not there.
+//! `crates/volkhidar/out`, where `rt lib` is asked to write it if it is not there.
 
 use std::path::{Path, PathBuf};
 use std::process::Command;
@@ -18,10 +18,11 @@ fn main() {
 }
 
 fn built_in(repository: &Path) -> PathBuf {
-    let library = repository.join("target/staticlib");
+    let folder = repository.join("crates/volkhidar");
+    let library = folder.join("out");
     if !library.join("libvolkhidar.a").exists() {
-        let built = Command::new("rt").args(["staticlib", "volkhidar"]).current_dir(repository).status();
-        assert!(built.is_ok_and(|status| status.success()), "`rt staticlib volkhidar` does not run here");
+        let built = Command::new("rt").arg("lib").current_dir(folder).status();
+        assert!(built.is_ok_and(|status| status.success()), "`rt lib` does not run in crates/volkhidar");
     }
     library
 }

@@ -1,7 +1,7 @@
 //! The smallest disk that holds a letter's points, exact and proved.
 //!
-//! Safe wrappers of the C interface (`include/volkhidar.h`). The library behind it is built by `rt staticlib volkhidar`, which the build
-//! calls where it was not built yet.
+//! Safe wrappers of the C interface (`include/volkhidar.h`). The library behind it is built by `rt lib` in `crates/volkhidar`, which the
+//! build calls where it was not built yet.
 //!
 //! A letter's way through the library:
 //!

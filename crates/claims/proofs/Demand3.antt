@@ -24,7 +24,7 @@ use Rattle.disks.specs.Smallest.{Smallest}
 use Rattle.disks.specs.Procedure.{State, disk, mtf, disk_of, tests_of, order_of}
 use Rattle.disks.specs.Runs.{Runs}
 use Rattle.disks.specs.Support.{first_support}
-use Rattle.disks.proofs.Welzl.{mtf-ends, smallest, disk_same, tests_most, order_permuted}
+use Rattle.disks.proofs.Welzl.{mtf-ends, disk_same, tests_most, order_permuted}
 use Rattle.disks.proofs.ByText.{by_text}
 use Rattle.disks.proofs.First.{first_support_same}
 use Rattle.description.specs.Description.{load_of, named}

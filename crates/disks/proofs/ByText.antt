@@ -19,7 +19,7 @@ use lib.ListN.{length}
 use lib.IntN.{pos}
 use lib.Signed.{◌<ℤ◌}
 use Rattle.integers.proofs.Bounds.{lt_true}
-use Rattle.integers.proofs.Order.{≤_of_eq, le}
+use Rattle.integers.proofs.Order.{≤_of_eq}
 use Rattle.integers.proofs.Tests.{test_true}
 use Rattle.geometry.specs.declared.Point.{Point}
 use Rattle.geometry.specs.Plane.{Disk, holds, on_boundary}

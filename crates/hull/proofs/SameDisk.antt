@@ -19,7 +19,7 @@ use lib.IntN.{pos, ◌*ℤ◌}
 use lib.ListN.{length}
 use Rattle.integers.specs.Order.{◌≼◌}
 use Rattle.integers.proofs.Laws.{one-*}
-use Rattle.integers.proofs.Order.{le, nn}
+use Rattle.integers.proofs.Order.{nn}
 use Rattle.geometry.specs.declared.Point.{Point}
 use Rattle.geometry.specs.Plane.{Disk, distance, holds, on_boundary}
 use Rattle.point_lists.specs.Sets.{In}

@@ -2,11 +2,13 @@
 #![tactic(auto)]
 
 use reading::Input;
+use std::io;
 
-fn main() {
-    let mut text = io::large_buffer();
-    match reading::read_all(&mut text) {
+fn main(rt: HostRuntime) -> io::Result<()> {
+    let mut text = [0u8; 65536];
+    match reading::read_all(&rt, &mut text) {
         Input::Bytes(n) => report::print_description(&text[..n]),
-        Input::Unreadable => os::fail(b"standard input"),
+        Input::Unreadable(error) => eprintln!(rt; "standard input: {error}")?,
     }
+    Ok(())
 }

@@ -11,8 +11,8 @@ use Rattle.reading.specs.declared.Input.{Input}
 abbrev pub Brings : Got → ℕ → Type 0
 Brings (got.TheVariants.Bytes n) k = (1 ≤ n) × (n ≤ k)
 Brings got.TheVariants.End k = Unit {0}
-Brings got.TheVariants.Failed k = Unit {0}
+Brings (got.TheVariants.Failed e) k = Unit {0}
 
 abbrev pub Holds : Input → ℕ → Type 0
 Holds (input.TheVariants.Bytes n) k = n ≤ k
-Holds input.TheVariants.Unreadable k = Unit {0}
+Holds (input.TheVariants.Unreadable e) k = Unit {0}

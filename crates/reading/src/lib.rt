@@ -4,49 +4,52 @@
 ghost use Rattle.std.specs.Prelude.{length};
 ghost use Rattle.reading.specs.Reading.{Brings, Holds};
 
-use libc::STDIN_FILENO;
+use std::io;
+use std::io::Read;
 
 // What one read gave.
 #[derive(Drop)]
 enum Got {
     Bytes(usize),
     End,
-    Failed,
+    Failed(io::Error),
 }
 
-// What standard input gave: how many bytes stand at the start of the buffer, all of the input or as many as there is room for.
+// What standard input gave: how many bytes stand at the start of the buffer, all of the input or as many as there is room for; or why it
+// could not be read.
 #[derive(Drop)]
 pub enum Input {
     Bytes(usize),
-    Unreadable,
+    Unreadable(io::Error),
 }
 
-fn read_some(buf: &mut [u8]) -> Got
+fn read_some(input: &mut impl Read, buf: &mut [u8]) -> Got
     ensures { Brings result (length buf.old) }
 {
-    let got = libc::read(STDIN_FILENO, buf);
-    if got < 0 {
-        return Got::Failed;
+    match input.read(buf) {
+        Ok(n) => {
+            if n == 0 {
+                return Got::End;
+            }
+            Got::Bytes(n)
+        }
+        Err(error) => Got::Failed(error),
     }
-    let n = io::count(got, buf);
-    if n == 0 {
-        return Got::End;
-    }
-    Got::Bytes(n)
 }
 
 // Reads until the input ends or the buffer is full.
-pub fn read_all(buf: &mut [u8]) -> Input
+pub fn read_all(rt: &impl io::Input, buf: &mut [u8]) -> Input
     ensures { Holds result (length buf.old) }
 {
+    let mut input = rt.reader();
     let mut done: usize = 0;
     while done < buf.len() {
-        match read_some(&mut buf[done..]) {
+        match read_some(&mut input, &mut buf[done..]) {
             Got::Bytes(n) => {
                 done += n;
             }
             Got::End => return Input::Bytes(done),
-            Got::Failed => return Input::Unreadable,
+            Got::Failed(error) => return Input::Unreadable(error),
         }
     }
     Input::Bytes(done)

@@ -35,6 +35,7 @@ fault_bad : GoodLine fault → ⊥
 fault_bad g = go fault g refl
   where
     go : (i : Line) → GoodLine i → i ≡ fault → ⊥
+    go fault g e = elim g [ ]
     go blank empty e = blank_fault e
     go (point p) (boxed b) e = point_fault p e
 

@@ -7,8 +7,9 @@ ghost use Rattle.std.specs.Prelude.{◌≤◌};
 mod estimate;
 mod report;
 
-use libc::STDERR_FILENO;
 use reading::Input;
+use std::env::{Env, FillError};
+use std::io;
 
 #[derive(Drop)]
 enum Wanted {
@@ -70,19 +71,22 @@ fn is_estimate(text: &[u8]) -> bool {
     true
 }
 
-fn read_argument() -> Asked {
-    if os::arg_count() < 2 {
-        return Asked::Listing(Wanted::Run(GREATEST));
-    }
+// An argument that is empty, or longer than any allowance is written, is no number.
+fn read_argument(rt: &impl Env) -> Asked {
     let mut text = [0u8; 64];
-    let n = os::arg(1, &mut text);
-    if n == 0 {
-        return Asked::Unreadable;
+    match rt.arg(1, &mut text) {
+        Ok(n) => {
+            if n == 0 {
+                return Asked::Unreadable;
+            }
+            if is_estimate(&text[..n]) {
+                return Asked::Listing(Wanted::Estimate);
+            }
+            decimal(&text[..n])
+        }
+        Err(FillError::NotPresent) => Asked::Listing(Wanted::Run(GREATEST)),
+        Err(FillError::TooLong) => Asked::Unreadable,
     }
-    if is_estimate(&text[..n]) {
-        return Asked::Listing(Wanted::Estimate);
-    }
-    decimal(&text[..n])
 }
 
 fn print(sheet: &[u8], wanted: Wanted) {
@@ -92,22 +96,20 @@ fn print(sheet: &[u8], wanted: Wanted) {
     }
 }
 
-fn list(wanted: Wanted) {
-    let mut sheet = io::large_buffer();
-    match reading::read_all(&mut sheet) {
+fn list(rt: &(impl io::Input + Eprint), wanted: Wanted) -> io::Result<()> {
+    let mut sheet = [0u8; 65536];
+    match reading::read_all(rt, &mut sheet) {
         Input::Bytes(n) => print(&sheet[..n], wanted),
-        Input::Unreadable => os::fail(b"standard input"),
+        Input::Unreadable(error) => eprintln!(rt; "standard input: {error}")?,
     }
+    Ok(())
 }
 
-fn main() {
-    match read_argument() {
-        Asked::Listing(wanted) => list(wanted),
-        Asked::Unreadable => {
-            io::write_all(
-                STDERR_FILENO,
-                b"the allowance is no number in decimal digits, nor the word estimate\n",
-            );
-        }
+fn main(rt: HostRuntime) -> io::Result<()> {
+    match read_argument(&rt) {
+        Asked::Listing(wanted) => list(&rt, wanted),
+        Asked::Unreadable => eprintln!(rt;
+            "the allowance is no number in decimal digits, nor the word estimate"
+        ),
     }
 }

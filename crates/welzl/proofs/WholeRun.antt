@@ -13,7 +13,7 @@ use lib.ListN.{length, drop, drop_of_length-le}
 use Rattle.geometry.specs.declared.Point.{Point}
 use Rattle.geometry.specs.Points.{points, flat}
 use Rattle.geometry.proofs.PointLists.{first_points_all}
-use Rattle.disks.specs.Procedure.{Cover, disk, mtf, disk_in, disk_of, tests_of, order_of}
+use Rattle.disks.specs.Procedure.{Cover, mtf, disk_in, disk_of, tests_of, order_of}
 use Rattle.disks.proofs.Welzl.{mtf-ends, smallest}
 use Rattle.relative_disks.specs.declared.RelativeDisk.{RelativeDisk}
 use Rattle.relative_disks.specs.Relative.{in_lowest_terms, Keeps}

@@ -2,7 +2,7 @@
 //!
 //!     cargo run --offline --release --bin differential -- PROGRAM FIRST_SEED LAST_SEED
 //!
-//! PROGRAM is the built `crates/vectors` (`target/bin/vectors` of the repository). Each seed is a run of 1,000 cases for each call,
+//! PROGRAM is the built `crates/vectors` (`crates/vectors/out/vectors` of the repository). Each seed is a run of 1,000 cases for each call,
 //! and 100 for previews near their bound.
 
 use reference::stored::drawn;

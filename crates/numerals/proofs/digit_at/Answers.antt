@@ -1,0 +1,15 @@
+-- `numerals::digit_at` meets its contract: inside the text the byte there decides.
+use mathlib.Core.Path.{◌∙◌}
+use Rattle.numerals.specs.Numeral.{is_digit}
+use Rattle.numerals.proofs.Places.{starts_in, starts_out}
+use Rattle.numerals.proofs.digit_at.Goals as goal
+
+pub returns-then-at-text : goal.returns-then-at-text
+returns-then-at-text c =
+    let a = c.args in
+    c.is_digit.ensures ∙ starts_in a.text.now a.at is_digit c.if-at-text.true
+
+pub returns : goal.returns
+returns c =
+    let a = c.args in
+    starts_out a.text.now a.at is_digit c.if-at-text.false
