@@ -115,6 +115,7 @@ from_first s p (q ∷ Q) = at-least_trans (from_first (better_of s (ordered p q)
 
 from_each : (s : Stretch) (p : Point) (Q : List Point) (q : Point) → In q Q → AtLeast (best_from s p Q) (ordered p q)
 unfolding best_from
+from_each s p [] q i = elim i [ ]
 from_each s p (r ∷ Q) q (Memᴰ.head e) = at-least_trans (from_first (better_of s (ordered p r)) p Q)
     (subst (λ (x : Point). AtLeast (better_of s (ordered p r)) (ordered p x)) (sym e) (better_of_lem s (ordered p r)).second)
 from_each s p (r ∷ Q) q (Memᴰ.tail i) = from_each (better_of s (ordered p r)) p Q q i
@@ -130,6 +131,7 @@ of_head s p Q q i = at-least_trans (of_first (best_from s p (p ∷ Q)) Q) (from_
 
 of_each : (s : Stretch) (Q : List Point) (p q : Point) → In p Q → In q Q → AtLeast (best_of s Q) (ordered p q)
 unfolding best_of
+of_each s [] p q i j = elim i [ ]
 of_each s (r ∷ Q) p q (Memᴰ.head e) j = subst (λ (x : Point). AtLeast (best_of s (r ∷ Q)) (ordered x q)) (sym e) (of_head s r Q q j)
 of_each s (r ∷ Q) p q (Memᴰ.tail i) (Memᴰ.head e) = subst (AtLeast (best_of s (r ∷ Q))) (ordered_comm q p)
     (subst (λ (x : Point). AtLeast (best_of s (r ∷ Q)) (ordered x p)) (sym e) (of_head s r Q p (Memᴰ.tail i)))
