@@ -1,4 +1,4 @@
-use mathlib.Core.Path.{◌≡◌, refl, sym, ap, ◌∙◌}
+use mathlib.Core.Path.{◌≡◌, sym, ap, ◌∙◌}
 use Prim.Native.Nat.{◌+◌}
 use native.Mathlib.Omega.{arith}
 use lib.ListN.{drop}
@@ -8,12 +8,6 @@ use Rattle.stretches.specs.declared.Stretch.{Stretch}
 use Rattle.stretches.specs.Widest.{ordered, better_of, best_from}
 use Rattle.farthest_points.proofs.Rows.{inside_at, from_step, from_end}
 use Rattle.farthest_points.proofs.best_from.Goals as goal
-
-pub point_at-p-requires : goal.point_at-p-requires
-point_at-p-requires c = c.requires.0
-
-pub loop-j-init : goal.loop-j-init
-loop-j-init c = (omega (arith, c.requires.0), refl)
 
 pub better_of-found-requires : goal.better_of-found-requires
 better_of-found-requires c =

@@ -1,4 +1,4 @@
-use mathlib.Core.Path.{◌≡◌, refl, sym, ap, ◌∙◌}
+use mathlib.Core.Path.{◌≡◌, sym, ap, ◌∙◌}
 use Prim.Native.Nat.{ℕ, ◌+◌, max}
 use native.Mathlib.Omega.{arith}
 use lib.ListN.{drop}
@@ -8,12 +8,6 @@ use Rattle.stretches.specs.Widest.{apart}
 use Rattle.farthest_points.specs.Reach.{reach_from}
 use Rattle.farthest_points.proofs.Rows.{inside_at, reach_step, reach_end}
 use Rattle.farthest_points.proofs.reach.Goals as goal
-
-pub point_at-p-requires : goal.point_at-p-requires
-point_at-p-requires c = c.requires.0
-
-pub loop-j-init : goal.loop-j-init
-loop-j-init c = (omega (arith, c.requires.0), refl)
 
 pub squared_distance-requires : goal.squared_distance-requires
 squared_distance-requires c =

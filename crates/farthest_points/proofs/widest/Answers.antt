@@ -9,7 +9,6 @@ use Rattle.geometry.specs.Points.{points, point_at}
 use Rattle.geometry.proofs.PointRows.{points-from}
 use Rattle.stretches.specs.declared.Stretch.{Stretch}
 use Rattle.stretches.specs.Widest.{ordered, best_of, widest_of}
-use Rattle.stretches.proofs.Found.{apart_self}
 use Rattle.farthest_points.proofs.Rows.{of_step, of_end}
 use Rattle.farthest_points.proofs.widest.Goals as goal
 
@@ -18,21 +17,12 @@ unfolding widest_of
 widest_first l h = let all = points-from 0 l h in
     ap (best_of (ordered (point_at l 0) (point_at l 0))) all ∙ sym (ap widest_of all)
 
-pub point_at-p-requires : goal.point_at-p-requires
-point_at-p-requires c = c.requires.0
-
-pub stretch_between-found-requires : goal.stretch_between-found-requires
-stretch_between-found-requires c = apart_self c.point_at-p.result
-
 pub loop-i-init : goal.loop-i-init
 loop-i-init c =
     let l = c.args.list.now in
     let is : c.stretch_between-found.result ≡ ordered (point_at l 0) (point_at l 0) =
     c.stretch_between-found.ensures ∙ ap (λ (p : Point). ordered p p) c.point_at-p.ensures in
     (omega arith, ap (λ (s : Stretch). best_of s (points l)) is ∙ widest_first l c.requires.0)
-
-pub best_if_far-found-requires : goal.best_if_far-found-requires
-best_if_far-found-requires c = (omega arith, c.requires.1)
 
 pub loop-i-preserved : goal.loop-i-preserved
 loop-i-preserved c =
