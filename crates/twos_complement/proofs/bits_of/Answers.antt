@@ -6,13 +6,13 @@ use native.Mathlib.Omega.{arith}
 use lib.Pow.{pow_pos}
 use lib.IntN.{ℤ, negsuc, ◌-ℤ◌, nat_abs}
 use mir.Syntax.{w64}
-use mir.Val.{to_z, of_z}
+use mir.Val.{SFits, to_z, of_z}
 use mir.Facts.{to_z-of_z}
 use Rattle.twos_complement.specs.Twos.{half, twos}
 use Rattle.integers.proofs.Complement.{complement, minus_back, Side, under, from, sided}
 use Rattle.twos_complement.proofs.bits_of.Goals as goal
-use Rattle.twos_complement.proofs.bits_of.Goals.{After-half_of-h}
 
+-- ---- of a z below 0
 complement_bits : (n : ℕ) (z : ℤ) → Side z true → half n - 1 + half n - nat_abs (complement z) ≡ twos n z
 unfolding twos
 complement_bits n _ (under m) = turned (half n) m (pow_pos (8 * n - 1))
@@ -25,19 +25,16 @@ bits : (n : ℕ) (z : ℤ) → Side z false → nat_abs z ≡ twos n z
 unfolding twos
 bits n _ (from m) = refl
 
--- where z is below 0: what is known of z, and -1 - z as the machine has it
-module _ (c : After-half_of-h) where
-  below-zero : Side c.args.z true
-  below-zero = sided c.ranges.z c.if-z-lt0.true
-
-  complemented : to_z w64 (of_z w64 (negsuc 0 -ℤ to_z w64 (of_z w64 c.args.z))) ≡ complement c.args.z
-  complemented = minus_back _ c.args.z (to_z-of_z c.ranges.z) c.ranges.z
+-- -1 - z, as the machine has it
+complemented : (z : ℤ) → SFits w64 z → to_z w64 (of_z w64 (negsuc 0 -ℤ to_z w64 (of_z w64 z))) ≡ complement z
+complemented z f = minus_back _ z (to_z-of_z f) f
 
 pub returns-then-z-lt0 : goal.returns-then-z-lt0
 returns-then-z-lt0 c =
-    let n = c.args.n in
-    ap₂ (λ (h : ℕ) (y : ℤ). h - 1 + h - nat_abs y) c.half_of-h.ensures (complemented c)
-    ∙ complement_bits n c.args.z (below-zero c)
+    let z = c.args.z in
+    let f = c.ranges.z in
+    ap₂ (λ (h : ℕ) (y : ℤ). h - 1 + h - nat_abs y) c.half_of-h.ensures (complemented z f)
+    ∙ complement_bits c.args.n z (sided f c.if-z-lt0.true)
 
 pub returns-else-z-lt0 : goal.returns-else-z-lt0
 returns-else-z-lt0 c =

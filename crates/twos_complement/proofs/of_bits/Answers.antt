@@ -9,20 +9,10 @@ use Rattle.twos_complement.specs.Twos.{half}
 use Rattle.twos_complement.proofs.TwosLaws.{half_le, half_pos, back_low, back-high}
 use Rattle.integers.proofs.Complement.{minus_back}
 use Rattle.twos_complement.proofs.of_bits.Goals as goal
-use Rattle.twos_complement.proofs.of_bits.Goals.{Else-u-h}
 
 -- the machine's form of the complement
 turned : (h u : ℕ) → 0 < h → h - 1 + h - u ≡ h + h - suc u
 turned h u p = omega arith
-
--- where u is from h on: h + h - 1 - u, which the code casts
-module _ (c : Else-u-h) where
-  rest : ℕ
-  rest = let h = c.half_of-h.result in h - 1 + h - c.args.u
-
-  small : rest < 2 ^ 63
-  unfolding rest
-  small = omega (arith, half_le c.requires.width, half_pos c.requires.width)
 
 pub returns-then-u-h : goal.returns-then-u-h
 returns-then-u-h c =
@@ -33,12 +23,14 @@ returns-then-u-h c =
     to_z_pos w64 u s ∙ sym (back_low n u l)
 
 pub returns-else-u-h : goal.returns-else-u-h
-unfolding rest
 returns-else-u-h c =
     let u = c.args.u in
     let n = c.args.n in
+    let h = c.half_of-h.result in
+    let rest = h - 1 + h - u in
     let l : half n ≤ u = subst (λ (h : ℕ). h ≤ u) c.half_of-h.ensures c.if-u-h.false in
-    minus_back _ (pos (rest c)) (to_z_pos w64 (rest c) (small c)) (record { sfits = small c })
+    let small : rest < 2 ^ 63 = omega (arith, half_le c.requires.width, half_pos c.requires.width) in
+    minus_back _ (pos rest) (to_z_pos w64 rest small) (record { sfits = small })
     ∙ ap (λ (h : ℕ). negsuc (h - 1 + h - u)) c.half_of-h.ensures
     ∙ ap negsuc (turned (half n) u (half_pos c.requires.width))
     ∙ sym (back-high n u l)
