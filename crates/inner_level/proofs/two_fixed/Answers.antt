@@ -2,7 +2,7 @@ use borrow.Author.Rules.{rules}
 use mathlib.Core.Path.{◌≡◌, refl, sym, ap, ◌∙◌, subst}
 use mathlib.Core.Bool.{true}
 use mathlib.Core.List.{[], ◌∷◌}
-use Prim.Native.Nat.{◌+◌, ◌-◌, ◌*◌, ◌≤◌}
+use Prim.Native.Nat.{◌+◌, ◌*◌, ◌≤◌}
 use native.Mathlib.Nat.{add-zero}
 use native.Mathlib.Omega.{arith}
 use lib.ListN.{length}
@@ -13,7 +13,6 @@ use Rattle.geometry.proofs.PointLists.{point_at-first_points}
 use Rattle.disks.specs.Procedure.{boundary_disk}
 use Rattle.relative_disks.specs.Relative.{is_outside, Keeps}
 use Rattle.relative_disks.proofs.RelativeLaws.{near_box}
-use Rattle.fixed_points.specs.declared.Boundary.{Boundary}
 use Rattle.fixed_points.specs.declared.Boundary.TheVariants.{Two, Three}
 use Rattle.fixed_points.specs.Boundary.{members, room_in, added, Boxed}
 use Rattle.inner_level.proofs.RanLaws.{ran_full, ran_none, ran_kept, ran_moved, ran-length, point_same, added-boxed}

@@ -24,12 +24,11 @@ pub bounds-list-k : goal.bounds-list-k
 bounds-list-k c = omega (arith, kept (goal.at.bounds-list-k c).At-loop-k)
 
 pub loop-k-preserved : goal.loop-k-preserved
-loop-k-preserved c =
-    (
-      omega arith,
-      rw (stored (get_or c.loop-k.list (c.loop-k.k - 1) (pos 0)) c.v-1.given, c.loop-k.invariant.1)
-          (shift_more (pos 0) c.args.list.now (2 * c.args.i) c.requires c.loop-k.k c.loop-k-test.true c.loop-k.invariant.0),
-    )
+loop-k-preserved c = (
+  omega arith,
+  rw (stored (get_or c.loop-k.list (c.loop-k.k - 1) (pos 0)) c.v-1.given, c.loop-k.invariant.1)
+      (shift_more (pos 0) c.args.list.now (2 * c.args.i) c.requires c.loop-k.k c.loop-k-test.true c.loop-k.invariant.0),
+)
 
 pub bounds-list-0 : goal.bounds-list-0
 bounds-list-0 c = omega (arith, kept (goal.at.bounds-list-0 c).At-loop-k)

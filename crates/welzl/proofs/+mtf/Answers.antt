@@ -1,5 +1,5 @@
 -- `welzl::mtf` meets its contract.
-use Rattle.std.proofs.Common.{rules, ◌≡◌, ℕ, ◌+◌, ◌-◌, ◌*◌, ◌^◌, ◌<◌, ◌≤◌, ◌∙◌, length, arith, sym, ap, subst}
+use Rattle.std.proofs.Common.{rules, ◌≡◌, ℕ, ◌+◌, ◌*◌, ◌^◌, ◌<◌, ◌≤◌, ◌∙◌, length, arith, sym, ap, subst}
 use mathlib.Core.Bool.{true}
 use native.Mathlib.Nat.{add-zero}
 use Rattle.geometry.specs.declared.Point.{Point}
@@ -9,7 +9,7 @@ use Rattle.geometry.proofs.PointLists.{point_at-first_points}
 use Rattle.relative_disks.specs.Relative.{is_outside}
 use Rattle.relative_disks.proofs.RelativeLaws.{near_box}
 use Rattle.fixed_points.specs.declared.Boundary.{Boundary}
-use Rattle.fixed_points.specs.Boundary.{members, room_in, added, Boxed}
+use Rattle.fixed_points.specs.Boundary.{room_in, added}
 use Rattle.inner_level.specs.Ran.{Ran}
 use Rattle.inner_level.proofs.RunLaws.{room_falls}
 use Rattle.inner_level.proofs.RanLaws.{ran_full, ran_none, ran_kept, ran_moved, ran-length, ran_tests, point_same, prefix_boxed, added-boxed}

@@ -1,6 +1,6 @@
 -- `welzl::mtf`, which calls itself. The measure is the room that is left in R; the loop's invariant is the promise itself, for the first
 -- i points, each of them tested once.
-use Rattle.std.proofs.Common.{◌≤◌, ◌+◌, ◌-◌}
+use Rattle.std.proofs.Common.{◌≤◌, ◌+◌}
 use Rattle.fixed_points.specs.Boundary.{room_in}
 use Rattle.inner_level.specs.Ran.{Ran}
 use Rattle.welzl.proofs.+mtf.Given as goal
