@@ -3,19 +3,13 @@
 --   sets_append   : a list is stored as its first part and, behind it, its second
 --   put_first     : a field that is written is its bytes stored
 --   put_next      : a field written behind stored bytes: its bytes are stored behind them
---   eight, two    : the widths that a record has
---   mag_arrives   : a signed number that is passed on is as large as it was
-use mathlib.Core.Path.{◌≡◌, refl, sym, ap, ◌∙◌, subst}
+use mathlib.Core.Path.{◌≡◌, refl, sym, ap, ◌∙◌}
 use mathlib.Core.List.{List, [], ◌∷◌, ◌++◌}
-use Prim.Native.Nat.{ℕ, suc, ◌+◌, ◌^◌, ◌<◌}
+use Prim.Native.Nat.{ℕ, suc, ◌+◌}
 use native.Mathlib.Nat.{add-zero, add-suc, suc-add}
-use lib.Dec.{lit≤}
-use lib.IntN.{ℤ}
 use lib.ListN.{length, set}
 use lib.Seq.{sets}
-use lib.Signed.{mag}
 use Rattle.big_endian.specs.Fields.{bytes_of, put}
-use Rattle.twos_complement.specs.Twos.{Width}
 
 pub sets_append : (l : List ℕ) (i : ℕ) (us vs : List ℕ) (n : ℕ) → length us ≡ n → sets l i (us ++ vs) ≡ sets (sets l i us) (i + n) vs
 sets_append l i us vs n e = go l i us ∙ ap (λ (k : ℕ). sets (sets l i us) (i + k) vs) e
@@ -33,13 +27,3 @@ put_first n v l i = refl
 pub put_next : (n v : ℕ) (l : List ℕ) (i : ℕ) (us : List ℕ) (k : ℕ) → length us ≡ k → put n v (i + k) (sets l i us) ≡ sets l i (us ++ bytes_of n v)
 unfolding put
 put_next n v l i us k e = sym (sets_append l i us (bytes_of n v) k e)
-
-pub eight : Width 8
-eight = record { some = lit≤ tt; few = lit≤ tt }
-
-pub two : Width 2
-two = record { some = lit≤ tt; few = lit≤ tt }
-
--- z is read back from what was passed
-pub mag_arrives : {z y : ℤ} (k : ℕ) → y ≡ z → mag z < 2 ^ k → mag y < 2 ^ k
-mag_arrives k e h = subst (λ (x : ℤ). mag x < 2 ^ k) (sym e) h

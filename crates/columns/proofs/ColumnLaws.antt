@@ -4,7 +4,6 @@
 --   box_x, box_column  : a point of the em box lies in one of its columns
 --   columns_none, seen_none : the columns and the marks of no point
 --   columns_next, seen_next : and with one more point
---   unseen             : a column of a group that is not marked has no point
 --   column_empty, column_one : the point of a column
 --   side_next, side_skip : the points of one more column, and of more columns without points
 use mathlib.Core.Path.{◌≡◌, refl, sym, ap, subst, ◌∙◌}
@@ -246,14 +245,6 @@ seen_next {P} {seen} m p b = record {
     go : (q : Point) → In q P ⊎ In q (p ∷ []) → get_or (set seen k 1) (nat_abs q.x / 16) 0 ≡ 1
     go q (inl i) = kept (nat_abs q.x / 16) (m.marked q i)
     go q (inr i) = also (λ r. get_or (set seen k 1) (nat_abs r.x / 16) 0 ≡ 1) here (none_of (λ r. get_or (set seen k 1) (nat_abs r.x / 16) 0 ≡ 1)) q i
-
-pub unseen : {P : List Point} {low high : List ℤ} {seen : List ℕ} → Columns P low high → Seen P seen
-    → (x : ℕ) → x < column_count → (get_or seen (x / 16) 0 ≡ 1 → ⊥) → get_or high x (pos 0) ≺ get_or low x (pos 0)
-unseen {P} {low} {high} {seen} c m x h e = go (c.column x h)
-  where
-    go : Column P x (get_or low x (pos 0)) (get_or high x (pos 0)) → get_or high x (pos 0) ≺ get_or low x (pos 0)
-    go (none f g) = rw (f, g) (record { lt = tt })
-    go (some i j) = absurd (e (m.marked (at x (get_or low x (pos 0))) i))
 
 -- ---- the point of a column
 

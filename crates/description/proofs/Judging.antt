@@ -5,7 +5,7 @@
 --   judge_outside, judge_many, judge_fault : the verdict where the first line decides
 --   Judging               == n points stand on the lines before the place `at`, they are kept at the front of the list, and the lines
 --                            from there on decide
---   judging_start, judging_pass, judging_keep : the first place, a blank line and a point on
+--   judging_pass, judging_keep : behind a blank line, and a point on
 --   judging_over, judging_kept : at the end of the text
 use Prim.Native.Nat.{ℕ, suc, ◌+◌, ◌-◌, ◌*◌, ◌≤◌, ◌<◌}
 use mathlib.Core.Path.{◌≡◌, refl, sym, ◌∙◌, ap, ap₂}
@@ -81,9 +81,6 @@ pub record Judging (text : List ℕ) (found₀ found : List ℤ) (at n : ℕ) : 
   pub room : length found ≡ length found₀
   pub verdict : by_line n (lines_read (drop at text)) ≡ by_line 0 (lines_read text)
   pub kept : take (2 * n) found ++ flat (named (drop at text)) ≡ flat (named text)
-
-pub judging_start : (text : List ℕ) (found : List ℤ) → Judging text found found 0 0
-judging_start text found = record { inside = omega arith; few = omega arith; room = refl; verdict = refl; kept = refl }
 
 -- a point that is kept
 verdict_on : (n : ℕ) (p : Point) (ls : List Line) → in_em_box p ≡ true → n < 4096 → by_line n (point p ∷ ls) ≡ by_line (n + 1) ls

@@ -3,7 +3,7 @@
 --   in_x, in_y                              == a coordinate lies in its range
 --   boxed_inside, boxed_beside, boxed_above : the verdict, by the two tests
 --   narrow_x, narrow_y                      : a coordinate in its range fits an i16
---   floats-judged, x_broken, y_broken       : the verdict on two floats, by what each was read as: far numbers need not be told apart
+--   floats-judged                           : the verdict on two floats, by what each was read as: far numbers need not be told apart
 use mathlib.Core.Path.{◌≡◌, refl, sym, ap, ap₂, ◌∙◌}
 use mathlib.Core.Bool.{Bool, true, false, not, ◌&&◌}
 use Prim.Native.Nat.{◌≤◌}
@@ -15,7 +15,7 @@ use lib.IntN.{ℤ, nat_abs}
 use mir.Syntax.{w16}
 use mir.Val.{SFits}
 use Rattle.answers.specs.Outcome.{Outcome, given, refused, refuse_if, and_then}
-use Rattle.answers.proofs.OutcomeLaws.{not_given, given_same, refused_same}
+use Rattle.answers.proofs.OutcomeLaws.{not_given, given_same}
 use Rattle.integers.specs.Order.{between}
 use Rattle.integers.proofs.Bounds.{v_abs, fits}
 use Rattle.integers.proofs.Tests.{between_most}
@@ -84,21 +84,4 @@ floats-judged x y a b h k = go (whole_of x) (whole_of y) h k
         → boxed (record { x = a; y = b }) ≡ and_then (and_then o (λ u. and_then q (λ w. given (record { x = u; y = w })))) boxed
     go (given u) (given w) h k = ap boxed (point_path (given_same h) (given_same k)) ∙ near-boxed (record { x = u; y = w })
     go (given u) (refused n) h k = absurd (not_given (sym k))
-    go (refused m) q h k = absurd (not_given (sym h))
-
-pub x_broken : (x y : Float) → refused 11 ≡ near_of x → refused 11 ≡ judged (Drawn x y)
-x_broken x y h = go (whole_of x) h
-  where
-    go : (o : Outcome ℤ) → refused 11 ≡ and_then o (λ z. given (near z))
-        → refused 11 ≡ and_then (and_then o (λ u. and_then (whole_of y) (λ w. given (record { x = u; y = w })))) boxed
-    go (given u) h = absurd (not_given h)
-    go (refused m) h = ap refused (refused_same h)
-
-pub y_broken : (x y : Float) (a : ℤ) → given a ≡ near_of x → refused 11 ≡ near_of y → refused 11 ≡ judged (Drawn x y)
-y_broken x y a h k = go (whole_of x) (whole_of y) h k
-  where
-    go : (o q : Outcome ℤ) → given a ≡ and_then o (λ z. given (near z)) → refused 11 ≡ and_then q (λ z. given (near z))
-        → refused 11 ≡ and_then (and_then o (λ u. and_then q (λ w. given (record { x = u; y = w })))) boxed
-    go (given u) (given w) h k = absurd (not_given k)
-    go (given u) (refused n) h k = ap refused (refused_same k)
     go (refused m) q h k = absurd (not_given (sym h))

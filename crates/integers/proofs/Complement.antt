@@ -5,19 +5,15 @@
 --   minus_fits, minus_back   : the machine's -1 - z fits an i64, and is read back as `complement z`
 --   Side z b                 == z is below 0 where b is true, and from 0 on where it is false
 --   sided                    : the machine's test of z < 0 decides which
---   Castable z               == what a cast of z to a u64 asks
---   castable, complement_castable  : a number from 0 on can be cast, and the complement of one below 0
 use mathlib.Core.Path.{◌≡◌, refl, sym, ap, ◌∙◌, subst}
 use mathlib.Core.Bool.{Bool, true, false, true≢false}
-use Prim.Native.Nat.{ℕ, zero, suc, ◌^◌, ◌<◌}
+use Prim.Native.Nat.{ℕ, zero, suc}
 use native.Mathlib.Nat.{not-suc-le-zero}
-use native.Mathlib.Omega.{arith}
 use borrow.Author.Tests.{ltb-true}
-use lib.Dec.{T}
-use lib.IntN.{ℤ, pos, negsuc, neg_ℤ, pred_ℤ, nat_abs, ◌-ℤ◌, +ℤ_idl, pred_ℤ-+ℤ}
-use lib.Signed.{lt_z, non_neg}
+use lib.IntN.{ℤ, pos, negsuc, neg_ℤ, pred_ℤ, ◌-ℤ◌, +ℤ_idl, pred_ℤ-+ℤ}
+use lib.Signed.{lt_z}
 use mir.Syntax.{w64}
-use mir.Val.{Fits, SFits, to_z, of_z}
+use mir.Val.{SFits, to_z, of_z}
 use mir.Facts.{to_z-of_z}
 
 abbrev pub complement : ℤ → ℤ
@@ -64,15 +60,3 @@ pub sided : {z : ℤ} {b : Bool} → SFits w64 z → lt_z (to_z w64 (of_z w64 z)
 sided {z} {b} fits t = side z b (ap (λ (y : ℤ). lt_z y (pos 0)) (sym (to_z-of_z fits)) ∙ t)
 
 -- ---- casts to a u64
-
-abbrev pub Castable : ℤ → Type 0
-Castable z = T (non_neg z) × Fits w64 (nat_abs z)
-
-full : {n : ℕ} → n < 2 ^ 63 → Fits w64 n
-full h = record { fits = omega arith }
-
-pub castable : (z : ℤ) → Side z false → SFits w64 z → Castable z
-castable _ (from m) f = (tt, full f.sfits)
-
-pub complement_castable : (z : ℤ) → Side z true → SFits w64 z → Castable (complement z)
-complement_castable _ (under m) f = (tt, full f.sfits)

@@ -5,12 +5,12 @@
 --   Noted f           == f of the first i of n glyphs stands at the front of a list, that of the others is still to come, and what is behind stays
 --   Summed f          == the same for the sum of f over the glyphs, each at most `each`
 --   Told              == both lists and both sums of an estimate behind i glyphs
---   told_first, told_next : it holds before the first glyph, and behind one more
+--   told_next         == it holds behind one more glyph
 --   told_answer, told_points, told_refusals : behind the last glyph all is as estimated
-use mathlib.Core.Path.{◌≡◌, refl, sym, ap, ap₂, ◌∙◌, subst}
+use mathlib.Core.Path.{◌≡◌, sym, ap, ap₂, ◌∙◌, subst}
 use mathlib.Core.List.{List, [], ◌∷◌, ◌++◌, map, append-nil, append_assoc}
 use Prim.Native.Nat.{ℕ, ◌+◌, ◌-◌, ◌*◌, ◌≤◌, ◌<◌}
-use native.Mathlib.Nat.{sub-zero, zero-add, mul-add}
+use native.Mathlib.Nat.{mul-add}
 use native.Mathlib.Numerals.{add-one}
 use native.Mathlib.Omega.{arith}
 use lib.ListN.{length, take, drop, set, length-set}
@@ -51,9 +51,6 @@ pub record Noted (f : Outcome ℕ → ℕ) (s : List ℕ) (n : ℕ) (l₀ l : Li
   pub front : take i l ++ each f s i (n - i) ≡ map f (loads s n)
 
 module _ (f : Outcome ℕ → ℕ) (s : List ℕ) (n : ℕ) where
-  noted_first : (l : List ℕ) → Noted f s n l l 0
-  noted_first l = record { same_length = refl; stay = refl; front = ap (each f s 0) (sub-zero n) }
-
   module _ {l₀ l : List ℕ} {i : ℕ} (z : Noted f s n l₀ l i) where
     noted_next : (v : ℕ) → i < n → n ≤ length l₀ → v ≡ f (load_at s i) → Noted f s n l₀ (set l i v) (i + 1)
     noted_next v below long e =
@@ -84,9 +81,6 @@ pub record Summed (f : Outcome ℕ → ℕ) (s : List ℕ) (n limit v i : ℕ) :
   pub small : v ≤ limit * i
 
 module _ (f : Outcome ℕ → ℕ) (s : List ℕ) (n limit : ℕ) where
-  summed_first : Summed f s n limit 0 0
-  summed_first = record { total = zero-add (sum (each f s 0 (n - 0))) ∙ ap (λ (m : ℕ). sum (each f s 0 m)) (sub-zero n); small = omega arith }
-
   module _ {v i : ℕ} (z : Summed f s n limit v i) where
     summed_next : (x : ℕ) → i < n → x ≤ limit → x ≡ f (load_at s i) → Summed f s n limit (v + x) (i + 1)
     unfolding sum
@@ -110,15 +104,6 @@ pub record Told (s : List ℕ) (n : ℕ) (ps₀ rs₀ ps rs : List ℕ) (bytes t
   pub refusals_told : Noted refusal_of s n rs₀ rs i
   pub bytes_told : Summed bytes_for s n record_length bytes i
   pub tests_told : Summed tests_for s n most tests i
-
-pub told_first : (s : List ℕ) (n : ℕ) (ps rs : List ℕ) → Told s n ps rs ps rs 0 0 0
-told_first s n ps rs = record {
-  within = omega arith;
-  points_told = noted_first points_of s n ps;
-  refusals_told = noted_first refusal_of s n rs;
-  bytes_told = summed_first bytes_for s n record_length;
-  tests_told = summed_first tests_for s n most;
-}
 
 -- what a glyph adds is small
 pub share_bytes : (text : List ℕ) {r : Share} → r ≡ share_of (load text) → r.bytes ≤ record_length

@@ -1,12 +1,11 @@
 -- Two's complement: there and back, for every width from 1 byte to 8.
 --
---   halves, half_pos, half_le   : twice the half is 2^(8n); the half is above 0 and at most 2^63
+--   half_pos, half_le           : the half is above 0 and at most 2^63
 --   twos_lt, back_mag           : the bytes of a signed number are below 2^(8n); what is read back has its magnitude below the half
 --   back-twos, twos_back        : a signed number comes back from its bytes, and bytes from their signed number
 use mathlib.Core.Path.{◌≡◌, refl, sym, ap, ◌∙◌, subst}
 use mathlib.Core.Bool.{Bool, true, false}
-use Prim.Native.Nat.{ℕ, zero, suc, ◌+◌, ◌-◌, ◌*◌, ◌^◌, ◌≤◌, ◌<◌}
-use native.Mathlib.Nat.{two-pow-succ}
+use Prim.Native.Nat.{ℕ, suc, ◌+◌, ◌-◌, ◌*◌, ◌^◌, ◌≤◌, ◌<◌}
 use native.Mathlib.Omega.{arith}
 use borrow.Author.Tests.{lt-ltb, le-ltb, ltb-true, ltb-false}
 use lib.Dec.{ltb}
@@ -15,22 +14,9 @@ use lib.Pow.{pow_pos, pow_mono}
 use lib.Signed.{mag}
 use Rattle.twos_complement.specs.Twos.{Width, half, twos, pick_z, back}
 
--- ---- the halves make the whole
-
-all : (k : ℕ) → 1 ≤ k → 2 ^ (k - 1) + 2 ^ (k - 1) ≡ 2 ^ k
-all zero h = absurd (none h)
-  where
-    none : 1 ≤ 0 → ⊥
-    none h = omega arith
-all (suc k) h = ap (λ (j : ℕ). 2 ^ j + 2 ^ j) (less k) ∙ sym (two-pow-succ k)
-  where
-    less : (k : ℕ) → suc k - 1 ≡ k
-    less k = omega arith
+-- ---- the size of the half
 
 module _ {n : ℕ} (w : Width n) where
-  pub halves : half n + half n ≡ 2 ^ (8 * n)
-  halves = all (8 * n) (omega (arith, w.some))
-
   pub half_pos : 0 < half n
   half_pos = pow_pos (8 * n - 1)
 

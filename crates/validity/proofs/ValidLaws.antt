@@ -1,6 +1,5 @@
 -- What a valid disk and its points are known to keep to, by whatever limits.
 --
---   narrow_em, narrow_old  : the limits of the em are narrow, and those of records of 45 bytes
 --   scaled_fits            : a limit of the box times E fits
 --   DiskBounds l d         == the limits of E, X, Y and S, as facts
 --   limits                 : a valid disk keeps to them
@@ -17,7 +16,7 @@ use mathlib.Core.List.{List}
 use Prim.Native.Nat.{ℕ, ◌*◌, ◌^◌, ◌≤◌, ◌∣◌}
 use native.Mathlib.Nat.{eq-one_of_dvd-one, le_trans, le_of_eq, mul-le-mul}
 use borrow.Author.Tests.{leb-true, le-leb, eqb-true, eq-eqb}
-use lib.Dec.{T, leb, ltb, lit≤}
+use lib.Dec.{T, leb, ltb}
 use lib.IntN.{ℤ, pos, nat_abs, ◌*ℤ◌}
 use lib.Signed.{le_z}
 use Rattle.integers.specs.Order.{between, ◌≼◌}
@@ -30,17 +29,11 @@ use Rattle.geometry.specs.declared.Limits.{Limits}
 use Rattle.geometry.specs.declared.SupportSet.{SupportSet}
 use Rattle.geometry.specs.declared.SupportSet.TheVariants.{One, Two, Three}
 use Rattle.geometry.specs.Plane.{Disk, members}
-use Rattle.geometry.specs.EmBox.{em, old_em, all_in_box, largest, WithinLimits}
+use Rattle.geometry.specs.EmBox.{all_in_box, largest, WithinLimits}
 use Rattle.geometry.proofs.EmBox.{left_size, right_size, foot_size, top_size}
 use Rattle.validity.specs.Narrow.{Narrow}
 use Rattle.validity.specs.Valid.{scale_in_limit, centre_in_box, square_in_limit, is_lowest, valid_disk_in, one_to_three, valid_points_in, valid_in}
 use Rattle.point_lists.specs.Rising.{rising}
-
-pub narrow_em : Narrow em
-narrow_em = record { box_fits = tt; scale_fits = tt; centre_fits = tt; squared_fits = lit≤ tt }
-
-pub narrow_old : Narrow old_em
-narrow_old = record { box_fits = tt; scale_fits = tt; centre_fits = tt; squared_fits = lit≤ tt }
 
 pub scaled_fits : (l : Limits) → Narrow l → T ((ltb (largest l) (2 ^ 63) && ltb l.scale (2 ^ 63)) && ltb (largest l * l.scale) (2 ^ 63))
 scaled_fits l n = true_test (both (both (test_true (ltb (largest l) (2 ^ 63)) n.box_fits) (test_true (ltb l.scale (2 ^ 63)) n.scale_fits))

@@ -2,7 +2,6 @@
 --
 --   within_wider, points_wider : a disk keeps to wider limits, and its points lie in the wider box
 --   valid_wider                : what is valid by narrower limits is valid by wider ones
---   narrower_self              : limits keep to themselves
 --   old_narrower               : the limits of records of 45 bytes keep to those of the em
 use mathlib.Core.Path.{◌≡◌}
 use mathlib.Core.Bool.{true}
@@ -12,7 +11,7 @@ use native.Mathlib.Nat.{le_refl, le_trans, mul-le-mul}
 use lib.Dec.{lit≤}
 use lib.IntN.{ℤ, pos, ◌*ℤ◌}
 use Rattle.integers.specs.Order.{◌≼◌}
-use Rattle.integers.proofs.Order.{≤-refl, ≤_trans, nonneg, le, nn, ◌⊠◌}
+use Rattle.integers.proofs.Order.{≤_trans, nonneg, le, nn, ◌⊠◌}
 use Rattle.integers.proofs.Ring.{poly}
 use Rattle.geometry.specs.declared.Point.{Point}
 use Rattle.geometry.specs.declared.Limits.{Limits}
@@ -53,16 +52,6 @@ module _ {l m : Limits} (w : Narrower l m) where
       let points = valid-points l d ps h in
       both_valid m d ps (disk-valid m d (limits l d disk).e_some (valid-lowest l d disk) (within_wider d (valid_within l d disk)))
       (points-valid m ps (counted l ps points) (rises l ps points) (points_wider ps (boxed l ps points)))
-
-pub narrower_self : (l : Limits) → Narrower l l
-narrower_self l = record {
-  left_within = ≤-refl l.left;
-  right_within = ≤-refl l.right;
-  foot_within = ≤-refl l.foot;
-  top_within = ≤-refl l.top;
-  scale_within = le_refl l.scale;
-  square_within = le_refl l.square;
-}
 
 pub old_narrower : Narrower old_em em
 old_narrower = record {
