@@ -1,8 +1,6 @@
 -- `traced_points::check_point` meets its contract: each return is one of the rules' row.
 use mathlib.Core.Path.{◌≡◌, sym, ◌∙◌}
 use mathlib.Core.Bool.{true}
-use lib.IntN.{pos}
-use Rattle.integers.proofs.Tests.{between-low}
 use Rattle.traced_points.specs.Traced.{tolerated}
 use Rattle.traced_points.proofs.Checks.{fault_tolerance, fault_box, fault_none}
 use Rattle.traced_points.proofs.check_point.Goals as goal
@@ -13,9 +11,6 @@ in_range c = sym c.is_tolerated.ensures ∙ c.if-not-is_tolerated.false
 
 pub returns-then-not-is_tolerated : goal.returns-then-not-is_tolerated
 returns-then-not-is_tolerated c = sym (fault_tolerance c.args.s (sym c.is_tolerated.ensures ∙ c.if-not-is_tolerated.true))
-
-pub is_boxed-requires : goal.is_boxed-requires
-is_boxed-requires c = between-low (pos 0) c.args.s.t (pos 50) (in_range c)
 
 pub returns-then-not-is_boxed : goal.returns-then-not-is_boxed
 returns-then-not-is_boxed c =

@@ -1,4 +1,4 @@
-use mathlib.Core.Path.{refl, sym, ap, ◌∙◌}
+use mathlib.Core.Path.{sym, ap, ◌∙◌}
 use Prim.Native.Nat.{◌+◌, ◌*◌}
 use native.Mathlib.Omega.{arith}
 use lib.ListN.{drop}
@@ -8,9 +8,6 @@ use Rattle.traced_points.specs.Traced.{fault, first_fault}
 use Rattle.square_corners.proofs.Threes.{traced-from, traced_end}
 use Rattle.traced_points.proofs.Checks.{fault_here, fault_past, fault_end}
 use Rattle.traced_points.proofs.check_points.Goals as goal
-
-pub loop-i-init : goal.loop-i-init
-loop-i-init c = (omega arith, omega (arith, c.requires), refl)
 
 pub returns-in-Refused : goal.returns-in-Refused
 returns-in-Refused c =

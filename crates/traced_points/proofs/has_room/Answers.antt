@@ -4,7 +4,7 @@ use lib.IntN.{◌+ℤ◌, ◌-ℤ◌}
 use mir.Syntax.{w64}
 use mir.Val.{to_z, of_z}
 use Rattle.integers.specs.Order.{between}
-use Rattle.integers.proofs.Bounds.{Value, v_add, v_neg, v_back, v_leaf, v_eq, v_fits, fits, reads_as}
+use Rattle.integers.proofs.Bounds.{Value, v_add, v_neg, v_back, v_leaf, v_eq, v_fits, reads_as}
 use Rattle.geometry.proofs.Coordinates.{widened}
 use Rattle.traced_points.proofs.has_room.Goals as goal
 use Rattle.traced_points.proofs.has_room.Goals.{After-wide-w}
@@ -18,12 +18,6 @@ low_end c = v_add (v_leaf w64 c.requires.0) (t_value c)
 
 abbrev high_end : (c : After-wide-w) → Value (to_z w64 (of_z w64 c.args.high) -ℤ to_z w64 (of_z w64 c.wide-w.result))
 high_end c = v_add (v_leaf w64 c.requires.1) (v_neg (t_value c))
-
-pub overflow_add-low : goal.overflow_add-low
-overflow_add-low c = fits (low_end c) tt
-
-pub overflow_sub-high : goal.overflow_sub-high
-overflow_sub-high c = fits (high_end (goal.at.overflow_sub-high c).After-wide-w) tt
 
 pub returns : goal.returns
 returns c =

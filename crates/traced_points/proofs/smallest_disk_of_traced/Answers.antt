@@ -1,6 +1,6 @@
 -- `traced_points::smallest_disk_of_traced` meets its contract: a list that passes the checks gets the disk of the squares' corners, any other is
 -- refused as they say.
-use mathlib.Core.Path.{◌≡◌, refl, sym, ap, ◌∙◌}
+use mathlib.Core.Path.{◌≡◌}
 use mathlib.Core.List.{List}
 use lib.IntN.{ℤ}
 use Rattle.answers.specs.Outcome.{given}
@@ -20,9 +20,3 @@ solve_short-requires c = record { fact_1 = accepts c.args.list.now c.in-Passed.e
 
 pub solve_long-requires : goal.solve_long-requires
 solve_long-requires c = accepts c.args.list.now c.in-Passed.ensures
-
-pub returns-then-list-le96 : goal.returns-then-list-le96
-returns-then-list-le96 c = record { answer = ap given c.solve_short.ensures ∙ sym c.in-Passed.ensures; list = refl }
-
-pub returns-else-list-le96 : goal.returns-else-list-le96
-returns-else-list-le96 c = record { answer = ap given c.solve_long.ensures ∙ sym c.in-Passed.ensures; list = refl }
