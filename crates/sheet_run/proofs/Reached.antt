@@ -2,14 +2,12 @@
 --
 --   state r b ns i       == the state behind i glyphs, read off the standing r, the buffer b and the list ns
 --   Reached              == the glyphs from i on lead from that state where all of them lead from the start, and what is behind stays
---   reached_first, reached_next : it holds before the first glyph, and behind one more
+--   reached_next         : it holds behind one more glyph
 --   reached_end          : behind the last glyph the state is that of the whole run
 --   reached_buffer, reached_numbers : so are the buffer and the list
-use mathlib.Core.Path.{◌≡◌, refl, sym, ap, ◌∙◌, subst}
-use mathlib.Core.Bool.{true}
+use mathlib.Core.Path.{◌≡◌, sym, ap, ◌∙◌, subst}
 use mathlib.Core.List.{List, ◌++◌}
 use Prim.Native.Nat.{ℕ, ◌+◌, ◌-◌, ◌*◌, ◌≤◌, ◌<◌}
-use native.Mathlib.Nat.{sub-zero}
 use native.Mathlib.Numerals.{add-one}
 use native.Mathlib.Omega.{arith}
 use lib.ListN.{length, take, drop, set, length-set}
@@ -33,9 +31,6 @@ use Rattle.sheet_run.proofs.Glyphs.{letters_next, letters_done}
 abbrev pub state : Standing → List ℕ → List ℕ → ℕ → State
 state r b ns i = record { left = r.left; going = r.going; worked = r.worked; records = take (record_length * r.worked) b; numbers = take i ns }
 
-abbrev pub first : ℕ → Standing
-first t = record { left = t; going = true; worked = 0; number = 0 }
-
 pub record Reached (s : List ℕ) (n t : ℕ) (b₀ ns₀ b ns : List ℕ) (r : Standing) (i : ℕ) : Type 0 where
   pub within : i ≤ n
   pub few : r.worked ≤ i
@@ -44,17 +39,6 @@ pub record Reached (s : List ℕ) (n t : ℕ) (b₀ ns₀ b ns : List ℕ) (r : 
   pub bytes_stay : drop (record_length * r.worked) b ≡ drop (record_length * r.worked) b₀
   pub places_stay : drop i ns ≡ drop i ns₀
   pub same : pass (letters s i (n - i)) (state r b ns i) ≡ pass (letters s 0 n) (start t)
-
-pub reached_first : (s : List ℕ) (n t : ℕ) (b ns : List ℕ) → Reached s n t b ns b ns (first t) 0
-reached_first s n t b ns = record {
-  within = omega arith;
-  few = omega arith;
-  buffer_length = refl;
-  numbers_length = refl;
-  bytes_stay = refl;
-  places_stay = refl;
-  same = ap (λ (m : ℕ). pass (letters s 0 m) (start t)) (sub-zero n);
-}
 
 -- ---- one glyph
 

@@ -17,8 +17,7 @@ two_fixed-run-requires c =
     let l = c.args.list.now in
     let size : length l ≡ 2 * (length l / 2) = omega (arith, c.requires.fact_1) in
     let none : Boxed [] = record { in_box = λ q m. absurd (Memᴰ.not-nil m) } in
-    let all_in = sym c.all_in_em_box.ensures
-    ∙ c.if-not-all_in_em_box.false in
+    let all_in = sym c.all_in_em_box.ensures ∙ c.if-not-all_in_em_box.false in
     let a_in = sym c.in_em_box.ensures ∙ c.if-not-in_em_box.false in
     let b_in = sym c.in_em_box-2.ensures ∙ c.if-not-in_em_box-2.false in
     record {

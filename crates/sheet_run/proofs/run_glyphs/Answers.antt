@@ -1,31 +1,11 @@
-use mathlib.Core.Path.{refl, sym, ap}
-use native.Mathlib.Omega.{arith}
+use mathlib.Core.Path.{sym, ap}
 use borrow.Author.Rules.{rules}
 use Rattle.answers.specs.Outcome.{given}
 use Rattle.letter.specs.Letter.{letter_of}
 use Rattle.run_steps.specs.Steps.{State}
 use Rattle.run_steps.proofs.StepLaws.{stepped_letter}
-use Rattle.sheet_run.proofs.Reached.{reached_first, reached_next, reached_end, reached_buffer, reached_numbers}
+use Rattle.sheet_run.proofs.Reached.{reached_next, reached_end, reached_buffer, reached_numbers}
 use Rattle.sheet_run.proofs.run_glyphs.Goals as goal
-
-pub loop-i-init : goal.loop-i-init
-loop-i-init c =
-    let a = c.args in
-    (reached_first a.sheet.now a.count a.allowance a.buffer.now a.numbers.now, refl)
-
-pub part_at-text-requires : goal.part_at-text-requires
-part_at-text-requires c =
-    let p = c.requires.0 in
-    (omega (arith, p.all, p.directory), omega (arith, p.all, p.directory, p.short))
-
-pub step-state-requires : goal.step-state-requires
-step-state-requires c =
-    let z = c.loop-i.invariant in
-    let p = c.requires in
-    (omega (arith, z.0.few, z.0.buffer_length, p.0.room, c.loop-i-test.true), omega (arith, z.1, p.1))
-
-pub bounds-numbers-i : goal.bounds-numbers-i
-bounds-numbers-i c = omega (arith, c.loop-i.invariant.0.numbers_length, c.requires.0.places, c.loop-i-test.true)
 
 pub loop-i-preserved : goal.loop-i-preserved
 loop-i-preserved c =
