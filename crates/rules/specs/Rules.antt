@@ -12,7 +12,7 @@
 --   Names p c          == the drawing program's point p is c: its whole numbers are c's, or its floats stand for them exactly
 --   point_row s         == the rules of a traced point: 14, then 3
 --   loader_row, directory_row, sheet_row, run_row, estimate_row, engine_row, writer_row, reader_row, disk_row, append_row, through_row, traced_row == the rows; radius
---                         and preview have diskRow, the call that reduces a list to its hull and that for the widest stretch have engineRow
+--                         and preview have disk_row, the call that reduces a list to its hull and that for the widest stretch have engine_row
 --
 -- `Inside em p`: x is from 0 to 2048 and y from −512 to 1536 (geometry/specs/EmBox.antt, which has every limit of points and disks).
 -- `Belong d ps`: the points ps belong to the disk d (belonging/specs/Belonging.antt).
