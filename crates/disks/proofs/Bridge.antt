@@ -167,12 +167,17 @@ boundary_cover (a ∷ []) h = ap disk (point_lowered a)
 boundary_cover (a ∷ b ∷ []) h = ap disk (diameter_lowered a b)
 boundary_cover (a ∷ b ∷ c ∷ R) h = absurd (omega arith)
 
+-- the disk of three points is the circle through them
+three_points : (a b c : Point) → boundary_disk (a ∷ b ∷ c ∷ []) ≡ disk (circle a b c)
+unfolding boundary_disk
+three_points a b c = refl
+
 pub full_cover : (R : List Point) → length R ≡ 3 → pos 0 <ℤ (boundary_form R).e → boundary_disk R ≡ cover_of (boundary_form R)
-unfolding boundary_disk boundary_form
+unfolding boundary_form
 full_cover [] h k = absurd (omega arith)
 full_cover (a ∷ []) h k = absurd (omega arith)
 full_cover (a ∷ b ∷ []) h k = absurd (omega arith)
-full_cover (a ∷ b ∷ c ∷ []) h k = ap disk (circle_lowered a b c) ∙ sym (cover_disk (triple_form a b c) k)
+full_cover (a ∷ b ∷ c ∷ []) h k = three_points a b c ∙ ap disk (circle_lowered a b c) ∙ sym (cover_disk (triple_form a b c) k)
 full_cover (a ∷ b ∷ c ∷ d ∷ R) h k = absurd (omega arith)
 
 -- ---- the runs agree
