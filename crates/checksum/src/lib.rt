@@ -1,7 +1,6 @@
 // The checksum of a row of numbers (tests/README.md): by it the test programs print a list or a buffer in one number.
 #![tactic(auto)]
 
-
 // The checksum with one more number.
 fn mixed(sum: u64, number: u64) -> u64 {
     (65537 * (sum % 1000003) + number % 65536) % 1000003
