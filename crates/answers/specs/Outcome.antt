@@ -2,9 +2,11 @@
 --
 --   Outcome A          == given a, or refused n with the papers' number n
 --   number_of r         == the number of the refusal r
+--   outcome r           == what a call's answer r says: its value, or the number of its refusal
+--   outcome_by f r      == the same, with f of the value
 --   refuse_if b n rest  == refused n where the test b holds, else rest: a row of these is a row of checks in their order
 --   and_then o f        == f of the value that o gives, or o's refusal: one call after another
-use Rattle.std.specs.Prelude.{ℕ, Bool, true, false}
+use Rattle.std.specs.Prelude.{ℕ, Bool, true, false, Result, Ok, Err}
 use Rattle.answers.specs.declared.Refusal.{Refusal}
 use Rattle.answers.specs.declared.Refusal.TheVariants.{TooLong, BadLine, OutsideBox, TooMany, NoPoint, BadSheet, BadRecord, NoRoom}
 use Rattle.answers.specs.declared.Refusal.TheVariants.{OddLength, NoGlyph, NotWhole, NotInList, NoDisk, BadTolerance, PointsDoNotFit, NotAllowed, TooMuch}
@@ -31,6 +33,13 @@ number_of BadTolerance = 14
 number_of PointsDoNotFit = 15
 number_of NotAllowed = 16
 number_of TooMuch = 17
+
+abbrev pub outcome_by : {A B : Type 0} → (A → B) → Result A Refusal → Outcome B
+outcome_by f (Ok a) = given (f a)
+outcome_by f (Err r) = refused (number_of r)
+
+abbrev pub outcome : {A : Type 0} → Result A Refusal → Outcome A
+outcome r = outcome_by (λ a. a) r
 
 abbrev pub refuse_if : {A : Type 0} → Bool → ℕ → Outcome A → Outcome A
 refuse_if true n rest = refused n
