@@ -2,20 +2,23 @@
 --
 --   bytes_of-length   : `bytes_of n v` has n bytes
 --   put_splits       : a write is what stands before the field, the bytes of v, and what stands behind it
+--   to_be            : the library's bytes of a word are those of 8 bytes
+--   drop_bytes       : the last n of more bytes
 --   get-bytes        : the bytes of a v below 2^(8n), between any two lists, are read as v
 --   get-high         : what is read of n bytes behind the digits of a has a above its n low bytes
 --   get_lt           : a field of n bytes is below 2^(8n)
 --   bytes_of-get      : the bytes of a field that was read are the field's own
 use mathlib.Core.Path.{◌≡◌, refl, sym, ap, ap₂, ◌∙◌, subst}
-use mathlib.Core.List.{List, ◌∷◌, ◌++◌, append_assoc}
+use mathlib.Core.List.{List, [], ◌∷◌, ◌++◌, append_assoc}
 use Prim.Native.Nat.{ℕ, zero, suc, ◌+◌, ◌*◌, ◌/◌, ◌%◌, ◌^◌, ◌≤◌, ◌<◌}
-use native.Mathlib.Nat.{suc-add, add-suc, le-add_right, div-one, one-mul, div-lt_iff_lt-mul}
+use native.Mathlib.Nat.{zero-add, suc-add, add-suc, le-add_right, div-one, one-mul, div-lt_iff_lt-mul}
 use native.Mathlib.Omega.{arith}
 use lib.Arith.{digits_div, digits_mod}
 use lib.Dec.{lit<}
 use lib.ListN.{length, get_or, take, drop, length-append}
 use lib.Pow.{pow_pos, shr-shr}
 use lib.Seq.{sets-eq, take-append_seam, drop_at, drop-cons}
+use Rattle.std.specs.Int.{w64, to_be_bytes}
 use Rattle.big_endian.specs.Fields.{digit, bytes_of, put, get}
 use Rattle.big_endian.proofs.FieldLaws.{round_trip}
 
@@ -30,6 +33,17 @@ put_splits n v at xs h =
     let e : length (bytes_of n v) ≡ n = bytes_of-length n v in
     sets-eq (bytes_of n v) xs at (subst (λ (k : ℕ). at + k ≤ length xs) (sym e) h)
     ∙ ap (λ (k : ℕ). take at xs ++ bytes_of n v ++ drop (at + k) xs) e
+
+-- the library's bytes of a word
+pub to_be : (v : ℕ) → to_be_bytes w64 v ≡ bytes_of 8 v
+unfolding bytes_of
+to_be v =
+    ap (λ (x : ℕ). digit 7 v ∷ digit 6 v ∷ digit 5 v ∷ digit 4 v ∷ digit 3 v ∷ digit 2 v ∷ digit 1 v ∷ x % 256 ∷ []) (sym (div-one v))
+
+pub drop_bytes : (k n v : ℕ) → drop k (bytes_of (k + n) v) ≡ bytes_of n v
+unfolding bytes_of
+drop_bytes zero n v = ap (λ (m : ℕ). bytes_of m v) (zero-add n)
+drop_bytes (suc k) n v = ap (λ (m : ℕ). drop (suc k) (bytes_of m v)) (suc-add k n) ∙ drop_bytes k n v
 
 -- writing the bytes that stand there already
 put_same : (n v : ℕ) (before behind : List ℕ) → put n v (length before) (before ++ bytes_of n v ++ behind) ≡ before ++ bytes_of n v ++ behind

@@ -1,7 +1,7 @@
 -- Fields of n bytes: what a write leaves, and what is read after it, stated once for every width.
 --
---   put_none, get_none        : nothing left to write or to read
---   put_one, get-one          : one byte at a time, as a loop goes that counts down what is left
+--   get_none                  : nothing left to read
+--   get-one                   : one byte at a time, as a loop goes over the bytes
 --   put-before                : every byte before the field stays
 --   eight                     : 8 more digits
 --   get-put, round_trip       : what was written is read
@@ -18,23 +18,11 @@ use Rattle.big_endian.specs.Fields.{digit, bytes_of, put, get}
 
 -- ---- nothing left
 
-pub put_none : (v at : ℕ) (xs : List ℕ) → put 0 v at xs ≡ xs
-unfolding bytes_of put
-put_none v at xs = refl
-
 pub get_none : (a at : ℕ) (xs : List ℕ) → get 0 a at xs ≡ a
 unfolding get
 get_none a at xs = refl
 
--- ---- one byte at a time, as a loop goes that counts down what is left
-
-pub put_one : (n v at : ℕ) (xs : List ℕ) → 0 < n → put (n - 1) v (at + 1) (set xs at (digit (n - 1) v)) ≡ put n v at xs
-unfolding bytes_of put
-put_one zero v at xs h = absurd (none h)
-  where
-    none : 0 < 0 → ⊥
-    none h = omega arith
-put_one (suc n) v at xs h = rw (sub-one (suc n), add-one at)
+-- ---- one byte at a time, as a loop goes over the bytes
 
 pub get-one : (n a at : ℕ) (xs : List ℕ) → 0 < n → get (n - 1) (a * 256 + get_or xs at 0) (at + 1) xs ≡ get n a at xs
 unfolding get

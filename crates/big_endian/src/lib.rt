@@ -1,5 +1,6 @@
 // Whole numbers in fields of n bytes, high byte first, at a place of a lent slice (01: "high byte first"). One set of functions
 // for every width from 1 to 8 bytes; 01 uses 2 and 8.
+// A field is given by its place in the whole slice: the layouts of 01 are tables of places, and `put` and `get` of specs/ speak of the whole.
 #![tactic(auto)]
 
 ghost use Rattle.std.specs.Prelude.{◌≡◌, ◌+◌, ◌*◌, ◌^◌, ◌≤◌, ◌<◌, length};
@@ -12,19 +13,7 @@ pub fn put_at(buf: &mut [u8], at: usize, n: usize, v: u64)
     requires { (n ≤ 8) × (at + n ≤ length buf.old) }
     ensures { buf.new ≡ put n v at buf.old }
 {
-    let mut left: usize = n;
-    let mut i = at;
-    while 0 < left {
-        left -= 1;
-        buf[i] = ((v >> (8 * left)) & 0xff) as u8;
-        i += 1;
-    }
-}
-
-fn wide(b: u8) -> u64
-    ensures { (result ≡ b) × (result < 256) }
-{
-    b as u64
+    buf[at..at + n].copy_from_slice(&v.to_be_bytes()[8 - n..]);
 }
 
 // The number of n bytes.
@@ -33,12 +22,8 @@ pub fn get_at(buf: &[u8], at: usize, n: usize) -> u64
     ensures { (result ≡ get n 0 at buf.now) × (result < 2 ^ (8 * n)) }
 {
     let mut sum: u64 = 0;
-    let mut left = n;
-    let mut i = at;
-    while 0 < left {
-        left -= 1;
-        sum = sum * 256 + wide(buf[i]);
-        i += 1;
+    for b in &buf[at..at + n] {
+        sum = sum * 256 + u64::from(*b);
     }
     sum
 }

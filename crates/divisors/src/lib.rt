@@ -12,7 +12,7 @@ pub struct Triple {
     pub e: u64,
 }
 
-// The greatest common divisor of a and b, by Euclid.
+// The greatest common divisor of a and b, by Euclid. A `while`: each step gives the next pair, and there is no row of pairs to go through.
 pub fn gcd_of(a: u64, b: u64) -> u64
     ensures { result ≡ gcd a b }
 {

@@ -2,6 +2,8 @@
 --
 --   two-suc                 : 2(n + 1) as two more than 2n
 --   two_dropped             : two numbers of a list, and those behind them
+--   points_none, points_next : a list of fewer than two numbers has no point; any other has its first, and those of the rest
+--   length_points           : a list has two numbers, or more, for each of its points
 --   length-flat             : the numbers of n points are 2n
 --   flat_append             : the numbers of two lists of points, one after the other
 --   first_points-flat        : of those numbers with more behind, the first points are ps
@@ -32,6 +34,27 @@ two-suc n = omega arith
 
 two-suc-one : (n : ℕ) → 2 * suc n + 1 ≡ suc (suc (2 * n + 1))
 two-suc-one n = omega arith
+
+-- ---- the first point and those behind it
+
+pub points_none : (l : List ℤ) → length l < 2 → points l ≡ []
+unfolding points
+points_none [] h = refl
+points_none (x ∷ []) h = refl
+points_none (x ∷ y ∷ l) h = absurd (omega arith)
+
+pub points_next : (l : List ℤ) → 2 ≤ length l → points l ≡ point_at l 0 ∷ points (drop 2 l)
+unfolding points
+points_next [] h = absurd (omega arith)
+points_next (x ∷ []) h = absurd (omega arith)
+points_next (x ∷ y ∷ l) h = refl
+
+-- so what counts points fits a word
+pub length_points : (l : List ℤ) → 2 * length (points l) ≤ length l
+unfolding points
+length_points [] = omega arith
+length_points (x ∷ []) = omega arith
+length_points (x ∷ y ∷ l) = omega (arith, length_points l)
 
 -- ---- points as numbers
 

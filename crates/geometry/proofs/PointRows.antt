@@ -7,16 +7,13 @@
 --   first_points-from, first_points_end : so of the first n points, up to the last
 --   points_end            : behind the last point there is none
 --   first_points-take      : the first k of the first n points
---   drop_next             : lists with the same numbers from 2i on have the same from 2(i + 1) on
---   point_at-drop          : lists with the same numbers from 2i on have the same point i
 use mathlib.Core.Path.{◌≡◌, refl, sym, ap, subst, ◌∙◌}
 use mathlib.Core.List.{List, [], ◌∷◌, Memᴰ}
 use Prim.Native.Nat.{ℕ, zero, suc, ◌+◌, ◌*◌, ◌/◌, ◌≤◌, ◌<◌}
-use native.Mathlib.Nat.{add-zero}
 use native.Mathlib.Omega.{arith}
 use lib.IntN.{ℤ, pos}
 use lib.ListN.{length, get_or, take, drop, length-take, drop_of_length-le}
-use lib.Seq.{drop-drop, get_or-take, get_or-drop}
+use lib.Seq.{get_or-take}
 use Rattle.geometry.specs.declared.Point.{Point}
 use Rattle.geometry.specs.Points.{points, point_at, first_points}
 use Rattle.geometry.proofs.PointLists.{two-suc, two_dropped, first_points-whole, length-first_points, point_at-first_points}
@@ -72,16 +69,3 @@ first_points-take (suc k) (suc n) [] h fits = absurd (omega arith)
 first_points-take (suc k) (suc n) (x ∷ []) h fits = absurd (omega arith)
 first_points-take (suc k) (suc n) (x ∷ y ∷ l) h fits =
     rw (two-suc k, two-suc n) (ap {B = List Point} (λ Q. record { x = x; y = y } ∷ Q) (first_points-take k n l (omega arith) (omega arith)))
-
-pub drop_next : (i : ℕ) (l m : List ℤ) → drop (2 * i) l ≡ drop (2 * i) m → drop (2 * (i + 1)) l ≡ drop (2 * (i + 1)) m
-drop_next i l m e =
-    let next : 2 * i + 2 ≡ 2 * (i + 1) = omega arith in
-    let at : (r : List ℤ) → drop 2 (drop (2 * i) r) ≡ drop (2 * (i + 1)) r = λ r. drop-drop 2 (2 * i) r ∙ ap (λ (k : ℕ). drop k r) next in
-    sym (at l) ∙ ap (drop 2) e ∙ at m
-
-pub point_at-drop : (i : ℕ) (l m : List ℤ) → drop (2 * i) l ≡ drop (2 * i) m → point_at l i ≡ point_at m i
-point_at-drop i l m e =
-    let at : (k : ℕ) → get_or l (2 * i + k) (pos 0) ≡ get_or m (2 * i + k) (pos 0) =
-    λ k. sym (get_or-drop (2 * i) l k (pos 0)) ∙ ap (λ (r : List ℤ). get_or r k (pos 0)) e ∙ get_or-drop (2 * i) m k (pos 0) in
-    let x_is : get_or l (2 * i) (pos 0) ≡ get_or m (2 * i) (pos 0) = rw (add-zero (2 * i)) at (at 0) in
-    λ j. record { x = x_is j; y = at 1 j }

@@ -2,15 +2,17 @@
 #![tactic(auto)]
 
 ghost use Rattle.std.specs.Prelude.{◌≡◌, ◌+◌, ◌*◌, ◌≤◌, ◌-ℤ◌, length};
+ghost use Rattle.std.specs.Iterator.{YieldsFirst, item_count};
 ghost use Rattle.geometry.specs.EmBox.{em, old_em, in_box, in_em_box};
-ghost use Rattle.geometry.specs.Points.{point_at};
+ghost use Rattle.geometry.specs.Points.{point_at, points};
 ghost use Rattle.geometry.specs.Order.{before};
 
+use std::fmt;
 use wide_numbers::Wide;
 
-// 01: a corner.
+// 01: a corner. Their order is the rising one: x, then y.
 #[repr(C)]
-#[derive(Clone, Copy)]
+#[derive(Clone, Copy, Debug, PartialEq, Eq, PartialOrd, Ord)]
 pub struct Point {
     pub x: i16,
     pub y: i16,
@@ -18,7 +20,7 @@ pub struct Point {
 
 // Centre (x/e, y/e), squared radius s/e² (01: X, Y, E, S).
 #[repr(C)]
-#[derive(Clone, Copy)]
+#[derive(Clone, Copy, Debug)]
 pub struct Disk {
     pub x: i64,
     pub y: i64,
@@ -27,7 +29,7 @@ pub struct Disk {
 }
 
 // The box that points lie in, x from left to right and y from foot to top, the largest E and the largest S/E².
-#[derive(Clone, Copy)]
+#[derive(Clone, Copy, Debug)]
 pub struct Limits {
     pub left: i64,
     pub right: i64,
@@ -38,18 +40,47 @@ pub struct Limits {
 }
 
 // Points whose own smallest disk is that of the whole list (01: a rim set).
-#[derive(Clone, Copy)]
+#[derive(Clone, Copy, Debug)]
 pub enum SupportSet {
     One(Point),
     Two(Point, Point),
     Three(Point, Point, Point),
 }
 
+// A disk with its support set (01: with its rim set).
+#[derive(Clone, Copy, Debug)]
+pub struct SupportedDisk {
+    pub disk: Disk,
+    pub support: SupportSet,
+}
+
+impl fmt::Display for Point {
+    fn fmt<W: fmt::Write>(&self, f: &mut fmt::Formatter<W>) -> fmt::Result {
+        write!(f, "{} {}", self.x, self.y)
+    }
+}
+
+impl fmt::Display for Disk {
+    fn fmt<W: fmt::Write>(&self, f: &mut fmt::Formatter<W>) -> fmt::Result {
+        write!(f, "{} {} {} {}", self.x, self.y, self.e, self.s)
+    }
+}
+
+impl fmt::Display for SupportSet {
+    fn fmt<W: fmt::Write>(&self, f: &mut fmt::Formatter<W>) -> fmt::Result {
+        match self {
+            SupportSet::One(a) => write!(f, "{a}"),
+            SupportSet::Two(a, b) => write!(f, "{a} {b}"),
+            SupportSet::Three(a, b, c) => write!(f, "{a} {b} {c}"),
+        }
+    }
+}
+
 // The one place where a coordinate is widened.
 pub fn wide(v: i16) -> i64
     ensures { result ≡ v }
 {
-    v as i64
+    i64::from(v)
 }
 
 // b − a
@@ -99,40 +130,28 @@ pub fn old_em_limits() -> Limits
 }
 
 // Whether p lies in the box of the limits.
+#[tactic(auto, unfolding(crate::specs::EmBox::in_box))]
 pub fn in_box(l: Limits, p: Point) -> bool
     ensures { result ≡ in_box l p }
 {
-    let left = l.left;
-    let right = l.right;
-    let foot = l.foot;
-    let top = l.top;
-    if integers::is_between(left, wide(p.x), right) {
-        return integers::is_between(foot, wide(p.y), top);
-    }
-    false
+    integers::is_between(l.left, wide(p.x), l.right)
+        && integers::is_between(l.foot, wide(p.y), l.top)
 }
 
 // Whether p lies in the em box. The engine asks it of every point, so it stands by itself: with the limits as a value the test takes longer.
+#[tactic(auto, unfolding(crate::specs::EmBox::in_box))]
 pub fn in_em_box(p: Point) -> bool
     ensures { result ≡ in_em_box p }
 {
-    if integers::is_between(LEFT, wide(p.x), RIGHT) {
-        return integers::is_between(FOOT, wide(p.y), TOP);
-    }
-    false
+    integers::is_between(LEFT, wide(p.x), RIGHT) && integers::is_between(FOOT, wide(p.y), TOP)
 }
 
 // Whether p comes before q in rising order.
+#[tactic(auto, unfolding(crate::specs::Order::before))]
 pub fn is_before(p: Point, q: Point) -> bool
     ensures { result ≡ before p q }
 {
-    if p.x < q.x {
-        return true;
-    }
-    if q.x < p.x {
-        return false;
-    }
-    p.y < q.y
+    p < q
 }
 
 // Point i of a list of numbers, x and y by turns.
@@ -143,4 +162,29 @@ pub fn point_at(list: &[i16], i: usize) -> Point
     let x = list[2 * i];
     let y = list[2 * i + 1];
     Point { x, y }
+}
+
+// The points of a list of numbers, first to last.
+#[derive(Drop)]
+pub struct PointIter<'a>(&'a [i16]);
+
+impl<'a> Iterator for PointIter<'a> {
+    type Item = Point;
+
+    ghost next_gives = { YieldsFirst (λ s. points s.0.now) };
+
+    ghost remaining = { item_count (λ s. points s.0.now) };
+
+    #[tactic(auto, using(crate::proofs::PointLists::points_none, crate::proofs::PointLists::points_next))]
+    fn next(&mut self) -> Option<Point> {
+        let ([x, y], rest) = self.0.split_first_chunk::<2>()?;
+        self.0 = rest;
+        Some(Point { x: *x, y: *y })
+    }
+}
+
+pub fn points(list: &[i16]) -> PointIter<'_>
+    ensures { points result.0.now ≡ points list.now }
+{
+    PointIter(list)
 }

@@ -2,16 +2,10 @@
 --
 --   eq_z_eq, eq_z-refl   : `eq_z` decides equality of whole numbers
 --   same_eq, same_refl, differ : `same` decides equality of points
---   same_bits          : coordinates are compared by their bits
-use mathlib.Core.Path.{◌≡◌, refl, sym, ap, ◌∙◌, subst}
-use mathlib.Core.Bool.{Bool, true, false, true≢false}
-use borrow.Author.Tests.{eqb-true, eq-eqb}
-use lib.Dec.{eqb}
+use mathlib.Core.Path.{◌≡◌, refl}
+use mathlib.Core.Bool.{Bool, true, false}
 use lib.IntN.{ℤ}
 use lib.Signed.{le_z}
-use mir.Syntax.{w16}
-use mir.Val.{SFits, to_z, of_z}
-use mir.Facts.{to_z-of_z}
 use Rattle.integers.proofs.Tests.{first, rest, both, test_true}
 use Rattle.integers.proofs.Bounds.{le_true}
 use Rattle.integers.proofs.Order.{≤-refl, ≤_antisym}
@@ -42,14 +36,3 @@ differ p q n = go (same p q) refl
     go : (b : Bool) → same p q ≡ b → b ≡ false
     go true e = absurd (n (same_eq p q e))
     go false e = refl
-
-pub same_bits : {a b : ℤ} → SFits w16 a → SFits w16 b → eqb (of_z w16 a) (of_z w16 b) ≡ eq_z a b
-same_bits {a} {b} f g = go (eqb (of_z w16 a) (of_z w16 b)) (eq_z a b) refl refl
-  where
-    equal : eqb (of_z w16 a) (of_z w16 b) ≡ true → a ≡ b
-    equal h = sym (to_z-of_z f) ∙ ap (to_z w16) (eqb-true (of_z w16 a) (of_z w16 b) h) ∙ to_z-of_z g
-
-    go : (m n : Bool) → eqb (of_z w16 a) (of_z w16 b) ≡ m → eq_z a b ≡ n → m ≡ n
-    go true n h k = sym (subst (λ (z : ℤ). eq_z a z ≡ true) (equal h) (eq_z-refl a)) ∙ k
-    go false true h k = absurd (true≢false (sym (eq-eqb (of_z w16 a) (of_z w16 b) (ap (of_z w16) (eq_z_eq a b k))) ∙ h))
-    go false false h k = refl

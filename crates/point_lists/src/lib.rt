@@ -13,19 +13,15 @@ pub fn put_point(list: &mut [i16], i: usize, p: Point)
     requires { 2 * i + 2 ≤ length list.old }
     ensures { list.new ≡ put_at list.old i p }
 {
-    let x = p.x;
-    let y = p.y;
-    list[2 * i] = x;
-    list[2 * i + 1] = y;
+    list[2 * i] = p.x;
+    list[2 * i + 1] = p.y;
 }
 
+#[tactic(auto, unfolding(crate::specs::Sets::same))]
 pub fn is_same(p: Point, q: Point) -> bool
     ensures { result ≡ same p q }
 {
-    if p.x == q.x {
-        return p.y == q.y;
-    }
-    false
+    p == q
 }
 
 // Copies the first n numbers of one list over those of another.
@@ -33,7 +29,5 @@ pub fn copy_front(source: &[i16], n: usize, list: &mut [i16])
     requires { (n ≤ length source.now) × (n ≤ length list.old) }
     ensures { list.new ≡ paste list.old 0 source.now n }
 {
-    for i in 0..n {
-        list[i] = source[i];
-    }
+    list[..n].copy_from_slice(&source[..n]);
 }

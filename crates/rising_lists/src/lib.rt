@@ -1,4 +1,5 @@
 // Points put in their places in a rising list, each once.
+// The first n points of a list stand for a list of n: memory is fixed, so the list has room behind them.
 #![tactic(auto)]
 
 ghost use Rattle.std.specs.Prelude.{◌≡◌, ◌+◌, ◌*◌, ◌≤◌, length};
@@ -8,28 +9,18 @@ ghost use Rattle.rising_lists.specs.Place.{place_of, inserted_at};
 
 use geometry::Point;
 
-// Where a point goes in a rising list: at a place, or nowhere since it is there.
-#[derive(Drop)]
-enum Place {
-    At(usize),
-    There,
-}
-
-// The place of p among the first n points of the list.
-fn find_place(list: &[i16], n: usize, p: Point) -> Place
+// The place of p among the first n points of the list, where it is not one of them.
+#[tactic(auto, using(geometry::proofs::PointLists::length_points, point_lists::proofs::Order::behind_not_before), unfolding(crate::specs::Place::place_of))]
+fn find_place(list: &[i16], n: usize, p: Point) -> Option<usize>
     requires { 2 * n ≤ length list.now }
     ensures { result ≡ place_of p (first_points n list.now) 0 }
 {
-    for k in 0..n {
-        let q = geometry::point_at(list, k);
+    for (k, q) in geometry::points(&list[..2 * n]).enumerate() {
         if !geometry::is_before(q, p) {
-            if geometry::is_before(p, q) {
-                return Place::At(k);
-            }
-            return Place::There;
+            return geometry::is_before(p, q).then_some(k);
         }
     }
-    Place::At(n)
+    Some(n)
 }
 
 // Puts p in front of point k of the first n; those from k on go back by one place.
@@ -37,13 +28,8 @@ fn insert_at(list: &mut [i16], n: usize, k: usize, p: Point)
     requires { (k ≤ n) × (2 * n + 2 ≤ length list.old) }
     ensures { first_points (n + 1) list.new ≡ inserted_at k p (first_points n list.old) }
 {
-    let mut held = p;
-    for i in k..n {
-        let q = geometry::point_at(list, i);
-        point_lists::put_point(list, i, held);
-        held = q;
-    }
-    point_lists::put_point(list, n, held);
+    point_lists::put_point(list, n, p);
+    list[2 * k..2 * n + 2].rotate_right(2);
 }
 
 // Puts p in its place among the first n points of the list, and returns how many there are then.
@@ -53,8 +39,8 @@ pub fn insert_point(list: &mut [i16], n: usize, p: Point) -> usize
     ensures left { first_points result list.new ≡ insert p (first_points n list.old) }
 {
     match find_place(list, n, p) {
-        Place::There => n,
-        Place::At(k) => {
+        None => n,
+        Some(k) => {
             insert_at(list, n, k, p);
             n + 1
         }

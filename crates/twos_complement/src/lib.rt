@@ -1,4 +1,5 @@
 // Signed numbers as bits, in two's complement, for every width from 1 byte to 8 (01: "signed").
+// `Width n` stands at each function: n is a number of the layouts of 01, which its users add to places, and a struct around it would be opened at each use.
 #![tactic(auto)]
 
 ghost use Rattle.std.specs.Prelude.{◌≡◌, ◌+◌, ◌<◌};

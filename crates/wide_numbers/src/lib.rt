@@ -1,79 +1,63 @@
-// Whole numbers of 128 bits in two words: products, sums, comparisons and decimal digits.
+// Whole numbers of 128 bits in two words: products, sums of squares, comparisons and decimal text.
 #![tactic(auto)]
 
-ghost use Rattle.std.specs.Prelude.{◌≡◌, ◌+◌, ◌*◌, ◌^◌, ◌<◌, pos, ◌+ℤ◌, ◌*ℤ◌, ◌==◌, nat_le, nat_lt};
+ghost use Rattle.std.specs.Prelude.{◌≡◌, ◌*◌, pos, ◌+ℤ◌, ◌*ℤ◌, ◌==◌, nat_le, nat_lt};
 ghost use Rattle.wide_numbers.specs.Value.{value};
 
-// Half a word, 2^32.
-const HALF: u64 = 4_294_967_296;
+use std::fmt;
 
-// 2^31: the squares of two numbers below it make one word.
-const SMALL: u64 = 2_147_483_648;
-
-// hi * 2^64 + lo
+// hi * 2^64 + lo. The high word comes first, so the derived order is that of the numbers.
 #[repr(C)]
-#[derive(Clone, Copy)]
+#[derive(Clone, Copy, Debug, PartialEq, Eq, PartialOrd, Ord)]
 pub struct Wide {
     pub hi: u64,
     pub lo: u64,
 }
 
-// Each factor is cut in two at 2^32, and the four products are added column by column.
+impl From<u128> for Wide {
+    ghost from_gives = { λ n w. value w ≡ n };
+
+    fn from(n: u128) -> Wide {
+        Wide {
+            hi: (n >> 64) as u64,
+            lo: (n % (1 << 64)) as u64,
+        }
+    }
+}
+
+impl From<Wide> for u128 {
+    ghost from_gives = { λ w n. n ≡ value w };
+
+    fn from(w: Wide) -> u128 {
+        (u128::from(w.hi) << 64) + u128::from(w.lo)
+    }
+}
+
+impl fmt::Display for Wide {
+    fn fmt<W: fmt::Write>(&self, f: &mut fmt::Formatter<W>) -> fmt::Result {
+        u128::from(*self).fmt(f)
+    }
+}
+
 pub fn product(u: u64, v: u64) -> Wide
     ensures { value result ≡ u * v }
 {
-    let u0 = u % HALF;
-    let u1 = u / HALF;
-    let v0 = v % HALF;
-    let v1 = v / HALF;
-    let low = u0 * v0;
-    let middle = u1 * v0 + low / HALF;
-    let next = u0 * v1 + middle % HALF;
-    Wide {
-        hi: u1 * v1 + middle / HALF + next / HALF,
-        lo: next % HALF * HALF + low % HALF,
-    }
+    Wide::from(u128::from(u) * u128::from(v))
 }
 
-fn sum(a: Wide, b: Wide) -> Wide
-    requires { value a + value b < 2 ^ 128 }
-    ensures { value result ≡ value a + value b }
-{
-    let lo = std::num::wrapping_add_u64(a.lo, b.lo);
-    if lo < a.lo {
-        return Wide {
-            hi: a.hi + b.hi + 1,
-            lo,
-        };
-    }
-    Wide {
-        hi: a.hi + b.hi,
-        lo,
-    }
-}
-
-// a² + b². As a rule a and b are so small that one word holds it.
+// a² + b²
 pub fn sum_of_squares(a: i64, b: i64) -> Wide
     ensures { pos (value result) ≡ a *ℤ a +ℤ b *ℤ b }
 {
-    let m = integers::magnitude(a);
-    let n = integers::magnitude(b);
-    if m < SMALL && n < SMALL {
-        return Wide {
-            hi: 0,
-            lo: m * m + n * n,
-        };
-    }
-    sum(product(m, m), product(n, n))
+    let m = u128::from(integers::magnitude(a));
+    let n = u128::from(integers::magnitude(b));
+    Wide::from(m * m + n * n)
 }
 
 pub fn is_same(a: Wide, b: Wide) -> bool
     ensures { result ≡ (value a == value b) }
 {
-    if a.hi == b.hi {
-        return a.lo == b.lo;
-    }
-    false
+    a == b
 }
 
 pub fn is_zero(a: Wide) -> bool
@@ -85,36 +69,11 @@ pub fn is_zero(a: Wide) -> bool
 pub fn is_below(a: Wide, b: Wide) -> bool
     ensures { result ≡ nat_lt (value a) (value b) }
 {
-    if a.hi == b.hi {
-        return a.lo < b.lo;
-    }
-    a.hi < b.hi
+    a < b
 }
 
 pub fn is_at_most(a: Wide, b: Wide) -> bool
     ensures { result ≡ nat_le (value a) (value b) }
 {
-    !is_below(b, a)
-}
-
-// A number divided by ten.
-#[derive(Drop)]
-pub struct ByTen {
-    pub rest: Wide,
-    pub digit: u64,
-}
-
-// The last decimal digit of a number, and what is left without it.
-pub fn tenth(w: Wide) -> ByTen
-    ensures { (value w ≡ 10 * value result.rest + result.digit) × (result.digit < 10) }
-{
-    let high = w.hi % 10 * HALF + w.lo / HALF;
-    let low = high % 10 * HALF + w.lo % HALF;
-    let hi = w.hi / 10;
-    let lo = high / 10 * HALF + low / 10;
-    let rest = Wide { hi, lo };
-    ByTen {
-        rest,
-        digit: low % 10,
-    }
+    a <= b
 }
