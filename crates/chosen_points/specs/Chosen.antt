@@ -2,21 +2,18 @@
 --
 --   chosen c       == the points that were chosen
 --   fixed c        == the same, and one that was chosen twice stands there once
---   outcome r      == what the call's answer r says: a disk, or the papers' number of the refusal
 --   through_of l c  == the answer due for the point list l and the choice c: the engine's own refusals of l, then 12 if a chosen point is not
 --                     in it, then 13 if no disk fits; else the smallest that does
 use Rattle.std.specs.Prelude.{Bool, true, false, not, List, [], ◌∷◌, ℤ}
-use Rattle.answers.specs.Outcome.{Outcome, given, refused, number_of, refuse_if, and_then}
+use Rattle.answers.specs.Outcome.{Outcome, refuse_if, and_then}
 use Rattle.geometry.specs.declared.Point.{Point}
-use Rattle.geometry.specs.Plane.{Disk, numbers}
+use Rattle.geometry.specs.Plane.{Disk}
 use Rattle.geometry.specs.Points.{points}
 use Rattle.point_lists.specs.Sets.{same, has, all_of}
 use Rattle.engine.specs.Engine.{enclose_of}
 use Rattle.fitting.specs.Fitting.{fitting_disk}
 use Rattle.chosen_points.specs.declared.Chosen.{Chosen}
 use Rattle.chosen_points.specs.declared.Chosen.TheVariants.{One, Two}
-use Rattle.chosen_points.specs.declared.Through.{Through}
-use Rattle.chosen_points.specs.declared.Through.TheVariants.{Found, Refused}
 
 abbrev pub chosen : Chosen → List Point
 chosen (One p) = p ∷ []
@@ -30,10 +27,6 @@ once false p q = p ∷ q ∷ []
 abbrev pub fixed : Chosen → List Point
 fixed (One p) = p ∷ []
 fixed (Two p q) = once (same p q) p q
-
-abbrev pub outcome : Through → Outcome Disk
-outcome (Found d) = given (numbers d)
-outcome (Refused r) = refused (number_of r)
 
 -- "the engine's own on the list, then 12 if a chosen corner, even one outside the em box, isn't in it, then 13 exactly if no such disk exists"
 unfoldable pub through_of : List ℤ → Chosen → Outcome Disk

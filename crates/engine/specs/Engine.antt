@@ -1,12 +1,12 @@
 -- The disk engine's answer, and the list as it leaves it (01, "Disk and rim", "Welzl's procedure and the count").
 --
 --   Enclosure       == the disk, the support set (01: rim set) and the number of tests
---   outcome r       == what the call's answer r says: an enclosure, or document 01's number of the refusal
+--   enclosure_told a == the enclosure that the call's value a holds
 --   enclose_of l     == the answer due for the point list l: refusals 9, 5, 4, 3 in this order; else the disk on which Welzl's
 --                      procedure ends, the first support set and the procedure's count
 --   list_after l     == the list as the procedure leaves it; unchanged where the call refuses
 use Rattle.std.specs.Prelude.{not, List, ℕ, ◌/◌, ◌%◌, eqb, ltb, ℤ, length}
-use Rattle.answers.specs.Outcome.{Outcome, given, refused, number_of, refuse_if}
+use Rattle.answers.specs.Outcome.{Outcome, given, refused, refuse_if}
 use Rattle.geometry.specs.declared.Point.{Point}
 use Rattle.geometry.specs.EmBox.{all_in_em_box}
 use Rattle.geometry.specs.Plane.{Disk, numbers, members}
@@ -14,16 +14,14 @@ use Rattle.geometry.specs.Points.{points, flat}
 use Rattle.disks.specs.Procedure.{disk_of, tests_of, order_of}
 use Rattle.disks.specs.Support.{first_support}
 use Rattle.engine.specs.declared.Enclosed.{Enclosed}
-use Rattle.engine.specs.declared.Enclosed.TheVariants.{Found, Refused}
 
 pub record Enclosure : Type 0 where
   pub disk : Disk
   pub support : List Point
   pub tests : ℕ
 
-abbrev pub outcome : Enclosed → Outcome Enclosure
-outcome (Found d t n) = given (record { disk = numbers d; support = members t; tests = n })
-outcome (Refused r) = refused (number_of r)
+abbrev pub enclosure_told : Enclosed → Enclosure
+enclosure_told a = record { disk = numbers a.found.disk; support = members a.found.support; tests = a.tests }
 
 abbrev pub enclosure : List Point → Enclosure
 enclosure P = record { disk = disk_of P; support = first_support P; tests = tests_of P }

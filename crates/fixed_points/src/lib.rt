@@ -62,19 +62,7 @@ pub fn boundary_disk(fixed: Boundary) -> RelativeDisk
             gx: 0,
             gy: 0,
         },
-        Boundary::Two(a, b) => relative_disks::diameter(
-            geometry::wide(a.x),
-            geometry::wide(a.y),
-            geometry::wide(b.x),
-            geometry::wide(b.y),
-        ),
-        Boundary::Three(a, b, c) => relative_disks::circle(
-            geometry::wide(a.x),
-            geometry::wide(a.y),
-            geometry::wide(b.x),
-            geometry::wide(b.y),
-            geometry::wide(c.x),
-            geometry::wide(c.y),
-        ),
+        Boundary::Two(a, b) => relative_disks::diameter(a, b),
+        Boundary::Three(a, b, c) => relative_disks::circle(a, b, c),
     }
 }

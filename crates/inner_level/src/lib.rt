@@ -23,6 +23,7 @@ pub fn two_fixed(list: &mut [i16], n: usize, a: Point, b: Point) -> RelativeRun
 {
     // "if P = ∅ .. then D := b_md(∅, R)"
     let mut disk = fixed_points::boundary_disk(Boundary::Two(a, b));
+    // By index: the turns move points of the list.
     for i in 0..n {
         // "choose last p in P"
         let p = geometry::point_at(list, i);

@@ -4,6 +4,8 @@
 --   same_circle           : so are the circles of the same numbers
 --   circle_by             : the circle by the signs of e
 --   wide-near             : a widened coordinate of a near point, as the machine reads it back
+--   minus-near            : and the difference of two
+--   minus_within          : how large the difference is
 --   near_box              : a point of the em box is near
 --   outside_kept          : a kept disk has a point of the em box outside where the text's disk has
 --   weight_in c            == E of the text's cover c, 0 of the empty disk
@@ -21,7 +23,7 @@ use mir.Syntax.{w16, w64}
 use mir.Val.{to_z, of_z}
 use Rattle.integers.proofs.Tests.{test_true}
 use Rattle.integers.specs.Order.{Within}
-use Rattle.integers.proofs.Bounds.{leaf_back}
+use Rattle.integers.proofs.Bounds.{leaf_back, back, at_most, v_within, v_add, v_neg}
 use Rattle.integers.proofs.Order.{positive, nn, ◌⊞◌, ◌⊠◌, lt}
 use Rattle.integers.proofs.Laws.{*-zero}
 use Rattle.integers.proofs.Ring.{ring, poly}
@@ -34,7 +36,7 @@ use Rattle.disks.proofs.Relative.{relative}
 use Rattle.disks.proofs.Base.{positive_not_zero}
 use Rattle.disks.proofs.Tests.{relative_written, outside_relative}
 use Rattle.relative_disks.specs.declared.RelativeDisk.{RelativeDisk}
-use Rattle.relative_disks.specs.Relative.{beyond, is_outside, nothing, by_sign, circle_about, largest_coordinate, Near, in_lowest_terms, StandsFor, none}
+use Rattle.relative_disks.specs.Relative.{beyond, is_outside, nothing, by_sign, circle_about, largest_coordinate, largest_difference, Near, in_lowest_terms, StandsFor, none}
 use Rattle.relative_disks.specs.Relative.{proper, row, Keeps}
 
 -- ---- equal numbers
@@ -61,6 +63,15 @@ module _ (qx qy ux uy vx vy : ℤ) where
 
 pub wide-near : {z r : ℤ} → Within largest_coordinate z → r ≡ to_z w16 (of_z w16 z) → to_z w64 (of_z w64 r) ≡ z
 wide-near {z} h e = ap (λ (x : ℤ). to_z w64 (of_z w64 x)) (e ∙ leaf_back w16 z largest_coordinate h tt) ∙ leaf_back w64 z largest_coordinate h tt
+
+pub minus-near : {a b r : ℤ} → Within largest_coordinate a → Within largest_coordinate b
+    → r ≡ to_z w16 (of_z w16 b) -ℤ to_z w16 (of_z w16 a) → to_z w64 (of_z w64 r) ≡ b -ℤ a
+minus-near {a} {b} h k e =
+    ap (λ (x : ℤ). to_z w64 (of_z w64 x)) (e ∙ ap₂ ◌-ℤ◌ (leaf_back w16 b largest_coordinate k tt) (leaf_back w16 a largest_coordinate h tt))
+    ∙ back w64 (v_add (v_within k) (v_neg (v_within h))) tt
+
+pub minus_within : {a b : ℤ} → Within largest_coordinate a → Within largest_coordinate b → Within largest_difference (b -ℤ a)
+minus_within h k = at_most (v_add (v_within k) (v_neg (v_within h))) tt
 
 pub near_box : (p : Point) → in_em_box p ≡ true → Near p
 near_box p h = let size = point_size em p h in record { x_near = record { within = size.0 }; y_near = record { within = size.1 } }

@@ -2,7 +2,7 @@
 #![tactic(auto)]
 
 ghost use Rattle.std.specs.Prelude.{◌≡◌, ◌-ℤ◌};
-ghost use Rattle.relative_disks.specs.Relative.{Coordinates, Differences, Near, SmallNumbers, Small, beyond, is_outside, diameter_about, circle_about};
+ghost use Rattle.relative_disks.specs.Relative.{Coordinates, Differences, Near, Small, beyond, is_outside, diameter_about, circle_about};
 
 use geometry::Point;
 
@@ -17,11 +17,12 @@ pub struct RelativeDisk {
 }
 
 // |p - q|² e > 2 (p - q)·g, for p = (x, y)
-fn is_beyond(e: i64, qx: i64, qy: i64, gx: i64, gy: i64, x: i64, y: i64) -> bool
-    requires fact_1 { SmallNumbers e qx qy gx gy }
-    requires fact_2 { Coordinates x y }
-    ensures { result ≡ beyond e qx qy gx gy x y }
+fn is_beyond(d: RelativeDisk, x: i64, y: i64) -> bool
+    requires small { Small d }
+    requires near { Coordinates x y }
+    ensures { result ≡ beyond d.e d.qx d.qy d.gx d.gy x y }
 {
+    let RelativeDisk { e, qx, qy, gx, gy } = d;
     let dx = x - qx;
     let dy = y - qy;
     0 < dx * (dx * e - 2 * gx) + dy * (dy * e - 2 * gy)
@@ -29,43 +30,33 @@ fn is_beyond(e: i64, qx: i64, qy: i64, gx: i64, gy: i64, x: i64, y: i64) -> bool
 
 // Whether p is outside d.
 pub fn is_outside(d: RelativeDisk, p: Point) -> bool
-    requires fact_1 { Small d }
-    requires fact_2 { Near p }
+    requires small { Small d }
+    requires near { Near p }
     ensures { result ≡ is_outside d p }
 {
-    is_beyond(
-        d.e,
-        d.qx,
-        d.qy,
-        d.gx,
-        d.gy,
-        geometry::wide(p.x),
-        geometry::wide(p.y),
-    )
+    is_beyond(d, geometry::wide(p.x), geometry::wide(p.y))
 }
 
-// The disk whose diameter is from (ax, ay) to (bx, by).
-pub fn diameter(ax: i64, ay: i64, bx: i64, by: i64) -> RelativeDisk
-    requires fact_1 { Coordinates ax ay }
-    requires fact_2 { Coordinates bx by }
-    ensures { result ≡ diameter_about ax ay bx by }
+// The disk whose diameter is from a to b.
+pub fn diameter(a: Point, b: Point) -> RelativeDisk
+    requires near_a { Near a }
+    requires near_b { Near b }
+    ensures { result ≡ diameter_about a.x a.y b.x b.y }
 {
-    let gx = bx - ax;
-    let gy = by - ay;
     RelativeDisk {
         e: 2,
-        qx: ax,
-        qy: ay,
-        gx,
-        gy,
+        qx: geometry::wide(a.x),
+        qy: geometry::wide(a.y),
+        gx: geometry::minus(b.x, a.x),
+        gy: geometry::minus(b.y, a.y),
     }
 }
 
 // The circle through q, q + u and q + v. Three points in a row have none: then every point is held, as by the text's disk.
 fn circle_about(qx: i64, qy: i64, ux: i64, uy: i64, vx: i64, vy: i64) -> RelativeDisk
-    requires fact_1 { Coordinates qx qy }
-    requires fact_2 { Differences ux uy }
-    requires fact_3 { Differences vx vy }
+    requires near { Coordinates qx qy }
+    requires u_small { Differences ux uy }
+    requires v_small { Differences vx vy }
     ensures { result ≡ circle_about qx qy ux uy vx vy }
 {
     let e = 2 * (ux * vy - uy * vx);
@@ -94,12 +85,19 @@ fn circle_about(qx: i64, qy: i64, ux: i64, uy: i64, vx: i64, vy: i64) -> Relativ
     RelativeDisk { e, qx, qy, gx, gy }
 }
 
-// The circle through (ax, ay), (bx, by) and (cx, cy).
-pub fn circle(ax: i64, ay: i64, bx: i64, by: i64, cx: i64, cy: i64) -> RelativeDisk
-    requires fact_1 { Coordinates ax ay }
-    requires fact_2 { Coordinates bx by }
-    requires fact_3 { Coordinates cx cy }
-    ensures { result ≡ circle_about ax ay (bx -ℤ ax) (by -ℤ ay) (cx -ℤ ax) (cy -ℤ ay) }
+// The circle through a, b and c.
+pub fn circle(a: Point, b: Point, c: Point) -> RelativeDisk
+    requires near_a { Near a }
+    requires near_b { Near b }
+    requires near_c { Near c }
+    ensures { result ≡ circle_about a.x a.y (b.x -ℤ a.x) (b.y -ℤ a.y) (c.x -ℤ a.x) (c.y -ℤ a.y) }
 {
-    circle_about(ax, ay, bx - ax, by - ay, cx - ax, cy - ay)
+    circle_about(
+        geometry::wide(a.x),
+        geometry::wide(a.y),
+        geometry::minus(b.x, a.x),
+        geometry::minus(b.y, a.y),
+        geometry::minus(c.x, a.x),
+        geometry::minus(c.y, a.y),
+    )
 }

@@ -2,33 +2,50 @@
 #![tactic(auto)]
 
 ghost use Rattle.std.specs.Prelude.{◌≡◌, ◌++◌, ◌+◌, ◌*◌, ◌/◌, ◌%◌, ◌≤◌, length};
+ghost use Rattle.std.specs.Iterator.{YieldsFirst, item_count};
 ghost use Rattle.geometry.specs.Points.{points, first_points};
 ghost use Rattle.tracings.specs.Squares.{traced, corners, all_corners};
-ghost use Rattle.square_corners.specs.Laying.{traced_at, Boxed, AllBoxed};
+ghost use Rattle.square_corners.specs.Laying.{Boxed, AllBoxed};
 
 use geometry::Point;
 use tracings::TracedPoint;
 
-// Traced point i of the list.
-pub fn traced_at(list: &[i16], i: usize) -> TracedPoint
-    requires { 3 * i + 3 ≤ length list.now }
-    ensures { result ≡ traced_at list.now i }
+// The traced points of a list of numbers, first to last.
+#[derive(Drop)]
+pub struct TracedIter<'a>(&'a [i16]);
+
+impl<'a> Iterator for TracedIter<'a> {
+    type Item = TracedPoint;
+
+    ghost next_gives = { YieldsFirst (λ s. traced s.0.now) };
+
+    ghost remaining = { item_count (λ s. traced s.0.now) };
+
+    #[tactic(auto, using(crate::proofs::Threes::traced_none, crate::proofs::Threes::traced_next))]
+    fn next(&mut self) -> Option<TracedPoint> {
+        let ([x, y, t], rest) = self.0.split_first_chunk::<3>()?;
+        self.0 = rest;
+        Some(TracedPoint {
+            x: *x,
+            y: *y,
+            t: *t,
+        })
+    }
+}
+
+pub fn traced_points(list: &[i16]) -> TracedIter<'_>
+    ensures { traced result.0.now ≡ traced list.now }
 {
-    let x = list[3 * i];
-    let y = list[3 * i + 1];
-    let t = list[3 * i + 2];
-    TracedPoint { x, y, t }
+    TracedIter(list)
 }
 
 // Writes the corners of the square of s as points 4i to 4i + 3.
 fn put_corners(room: &mut [i16], i: usize, s: TracedPoint)
-    requires fact_1 { 8 * i + 8 ≤ length room.old }
-    requires fact_2 { Boxed s }
+    requires room { 8 * i + 8 ≤ length room.old }
+    requires boxed { Boxed s }
     ensures { first_points (4 * (i + 1)) room.new ≡ first_points (4 * i) room.old ++ corners s }
 {
-    let x = s.x;
-    let y = s.y;
-    let t = s.t;
+    let TracedPoint { x, y, t } = s;
     let left = x - t;
     let right = x + t;
     let low = y - t;
@@ -42,13 +59,12 @@ fn put_corners(room: &mut [i16], i: usize, s: TracedPoint)
 
 // Writes the corners of all squares.
 pub fn lay_out(list: &[i16], room: &mut [i16])
-    requires fact_1 { length list.now % 3 ≡ 0 }
-    requires fact_2 { AllBoxed (traced list.now) }
-    requires fact_3 { length room.old ≡ 8 * (length list.now / 3) }
+    requires threes { length list.now % 3 ≡ 0 }
+    requires boxed { AllBoxed (traced list.now) }
+    requires room_length { length room.old ≡ 8 * (length list.now / 3) }
     ensures { points room.new ≡ all_corners (traced list.now) }
 {
-    let n = list.len() / 3;
-    for i in 0..n {
-        put_corners(room, i, traced_at(list, i));
+    for (i, s) in traced_points(list).enumerate() {
+        put_corners(room, i, s);
     }
 }

@@ -15,7 +15,7 @@ use geometry::{Disk, SupportSet};
 use support_span::Span;
 
 // The first place from i on whose point the search needs, or the end of the list where there is none. Most points are passed by, so that the loop
-// over them has nothing else in it.
+// over them has nothing else in it; by index, since its shape was chosen by the instructions of some twenty-five (docs/DECISIONS.md, 105).
 fn next_needed(list: &[i16], i: usize, disk: Disk, power: i64, span: Span) -> usize
     requires { (i ≤ length list.now / 2) × SmallDisk (numbers disk) × (1 ≤ disk.e) × OfBoundary (numbers disk) power }
     ensures { NextNeeded (numbers disk) span list.now i result }
@@ -41,11 +41,12 @@ fn collect(list: &[i16], disk: Disk, power: i64, out: &mut [i16]) -> usize
     let mut span = Span { lo: 0, hi: 0 };
     let n = list.len() / 2;
     let mut i = next_needed(list, 0, disk, power, span);
+    // A while: the next place is the one that next_needed finds.
     while i < n {
         let p = geometry::point_at(list, i);
         let size = rising_lists::insert_point(out, m, p);
         if m < size {
-            span = support_span::span_with(out, size, disk, p, span);
+            span = support_span::span_with(&out[..2 * size], disk, p, span);
         }
         m = size;
         i = next_needed(list, i + 1, disk, power, span);
@@ -63,20 +64,12 @@ fn search_in(list: &[i16], disk: Disk, room: &mut [i16]) -> SupportSet
     support_search::search(room, n, disk)
 }
 
-// Most lists are short, and clearing room for the longest would take as long as the search.
-fn search_short(list: &[i16], disk: Disk) -> SupportSet
-    requires { Asked list.now (numbers disk) × (length list.now ≤ 256) }
+// The same in room for N numbers of its own.
+fn search_in_room<const N: usize>(list: &[i16], disk: Disk) -> SupportSet
+    requires { Asked list.now (numbers disk) × (length list.now ≤ N) × (N ≤ 8192) }
     ensures { members result ≡ first_support (points list.now) }
 {
-    let mut room = [0i16; 256];
-    search_in(list, disk, &mut room)
-}
-
-fn search_long(list: &[i16], disk: Disk) -> SupportSet
-    requires { Asked list.now (numbers disk) }
-    ensures { members result ≡ first_support (points list.now) }
-{
-    let mut room = [0i16; 8192];
+    let mut room = [0i16; N];
     search_in(list, disk, &mut room)
 }
 
@@ -85,8 +78,9 @@ pub fn first_support(list: &[i16], disk: Disk) -> SupportSet
     requires { Asked list.now (numbers disk) }
     ensures { members result ≡ first_support (points list.now) }
 {
+    // Most lists are short, and clearing room for the longest would take as long as the search.
     if list.len() <= 256 {
-        return search_short(list, disk);
+        return search_in_room::<256>(list, disk);
     }
-    search_long(list, disk)
+    search_in_room::<8192>(list, disk)
 }

@@ -10,6 +10,7 @@ ghost use Rattle.support_search.specs.Search.{first_fit};
 use geometry::{Disk, SupportSet};
 
 // The first set of the first n points of the list that passes its test: a single one, then pairs, then triples.
+// Document 01 has this form by name: a nested search through pairs, then triples, left by label at the first set found.
 pub fn search(list: &[i16], n: usize, disk: Disk) -> SupportSet
     requires { (2 * n ≤ length list.now) × SmallDisk (numbers disk) × (1 ≤ length (first_fit (numbers disk) (first_points n list.now))) }
     ensures { members result ≡ first_fit (numbers disk) (first_points n list.now) }

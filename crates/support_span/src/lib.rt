@@ -1,8 +1,8 @@
 // Points that the search for the first support set can leave out: those between two opposite points of the boundary.
 #![tactic(auto)]
 
-ghost use Rattle.std.specs.Prelude.{◌≡◌, ◌*◌, ◌≤◌, length};
-ghost use Rattle.geometry.specs.Points.{first_points};
+ghost use Rattle.std.specs.Prelude.{◌≡◌};
+ghost use Rattle.geometry.specs.Points.{points};
 ghost use Rattle.point_lists.specs.Sets.{In};
 ghost use Rattle.support_tests.specs.Tests.{SmallDisk};
 ghost use Rattle.geometry.specs.Plane.{numbers};
@@ -24,14 +24,14 @@ pub fn is_spanned(span: Span, x: i16) -> bool
     span.lo < x && x < span.hi
 }
 
-// The span of p and its opposite, where that is among the first n points of the list; else the span given.
-pub fn span_with(list: &[i16], n: usize, disk: Disk, p: Point, span: Span) -> Span
-    requires n_in_bounds { (2 * n ≤ length list.now) × SmallDisk (numbers disk) }
-    requires fact { In p (first_points n list.now) × Spans (numbers disk) (first_points n list.now) span }
-    ensures { Spans (numbers disk) (first_points n list.now) result }
+// The span of p and its opposite, where that is one of the list's points; else the span given.
+pub fn span_with(list: &[i16], disk: Disk, p: Point, span: Span) -> Span
+    requires small { SmallDisk (numbers disk) }
+    requires among { In p (points list.now) }
+    requires spans { Spans (numbers disk) (points list.now) span }
+    ensures { Spans (numbers disk) (points list.now) result }
 {
-    for k in 0..n {
-        let q = geometry::point_at(list, k);
+    for q in geometry::points(list) {
         if support_tests::is_opposite(disk, p, q) {
             if p.x < q.x {
                 return Span { lo: p.x, hi: q.x };

@@ -49,14 +49,9 @@ fn is_acute_at(a: Point, b: Point, c: Point) -> bool
 }
 
 // Whether the triangle p q r has acute angles only.
+#[tactic(auto, unfolding(crate::specs::Tests::acute))]
 pub fn is_acute(p: Point, q: Point, r: Point) -> bool
     ensures { result ≡ acute p q r }
 {
-    if !is_acute_at(p, q, r) {
-        return false;
-    }
-    if !is_acute_at(q, r, p) {
-        return false;
-    }
-    is_acute_at(r, p, q)
+    is_acute_at(p, q, r) && is_acute_at(q, r, p) && is_acute_at(r, p, q)
 }

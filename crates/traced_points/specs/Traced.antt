@@ -3,20 +3,17 @@
 --   tolerated s   == t is from 0 to 50
 --   fault s       == what the rules say of one traced point: 14 for its t, then 3 for a square that leaves the em box
 --   first_fault ss == the refusal of the first faulty one
---   outcome r     == what the call's answer r says: a disk, or the papers' number of the refusal
 --   traced_of l    == the answer due for the list l: refusals 9, 5, 4, then that of the first faulty traced point; else the disk of the squares' corners
 --
 -- That this disk is the smallest that holds every possible tracing is claimed in requests/specs/TracedPoints.antt.
 use Rattle.std.specs.Prelude.{Bool, not, List, [], ◌∷◌, ◌/◌, ◌%◌, eqb, ltb, ℤ, pos, length}
-use Rattle.answers.specs.Outcome.{Outcome, given, refused, number_of, refuse_if, and_then}
+use Rattle.answers.specs.Outcome.{Outcome, given, refuse_if, and_then}
 use Rattle.integers.specs.Order.{between}
-use Rattle.geometry.specs.Plane.{Disk, numbers}
+use Rattle.geometry.specs.Plane.{Disk}
 use Rattle.geometry.specs.EmBox.{all_in_em_box}
 use Rattle.disks.specs.Procedure.{disk_of}
 use Rattle.tracings.specs.declared.TracedPoint.{TracedPoint}
 use Rattle.tracings.specs.Squares.{traced, corners, all_corners}
-use Rattle.traced_points.specs.declared.Traced.{Traced}
-use Rattle.traced_points.specs.declared.Traced.TheVariants.{Found, Refused}
 
 abbrev pub tolerated : TracedPoint → Bool
 tolerated s = between (pos 0) s.t (pos 50)
@@ -32,10 +29,6 @@ fault s =
 unfoldable pub first_fault : List TracedPoint → Outcome (Unit {0})
 first_fault [] = given tt
 first_fault (s ∷ ss) = and_then (fault s) (λ u. first_fault ss)
-
-abbrev pub outcome : Traced → Outcome Disk
-outcome (Found d) = given (numbers d)
-outcome (Refused r) = refused (number_of r)
 
 -- "9, 5 and 4 first"
 unfoldable pub traced_of : List ℤ → Outcome Disk

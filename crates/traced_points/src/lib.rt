@@ -5,24 +5,18 @@
 #![tactic(auto)]
 
 ghost use Rattle.std.specs.Prelude.{◌≡◌, ◌*◌, ◌/◌, ◌%◌, ◌≤◌, pos, ◌+ℤ◌, ◌-ℤ◌, length};
+ghost use Rattle.answers.specs.Outcome.{outcome, outcome_by};
 ghost use Rattle.integers.specs.Order.{◌≼◌, between, Within};
 ghost use Rattle.geometry.specs.EmBox.{all_in_em_box};
 ghost use Rattle.disks.specs.Procedure.{disk_of};
 ghost use Rattle.tracings.specs.Squares.{traced, corners, all_corners};
 ghost use Rattle.geometry.specs.Plane.{numbers};
-ghost use Rattle.traced_points.specs.Traced.{tolerated, fault, first_fault, outcome, traced_of};
-ghost use Rattle.traced_points.specs.Checks.{verdict, Checks, Accepted};
+ghost use Rattle.traced_points.specs.Traced.{tolerated, fault, first_fault, traced_of};
+ghost use Rattle.traced_points.specs.Checks.{Checks, Accepted};
 
 use answers::Refusal;
-use engine::Checked;
 use geometry::Disk;
 use tracings::TracedPoint;
-
-#[derive(Drop)]
-pub enum Traced {
-    Found(Disk),
-    Refused(Refusal),
-}
 
 // Whether t is from 0 to 50.
 fn is_tolerated(s: TracedPoint) -> bool
@@ -45,101 +39,81 @@ fn is_boxed(s: TracedPoint) -> bool
     requires { pos 0 ≼ s.t }
     ensures { result ≡ all_in_em_box (corners s) }
 {
-    if has_room(geometry::LEFT, s.x, s.t, geometry::RIGHT) {
-        return has_room(geometry::FOOT, s.y, s.t, geometry::TOP);
-    }
-    false
+    has_room(geometry::LEFT, s.x, s.t, geometry::RIGHT)
+        && has_room(geometry::FOOT, s.y, s.t, geometry::TOP)
 }
 
 // The rules of one traced point.
-fn check_point(s: TracedPoint) -> Checked
-    ensures { verdict result ≡ fault s }
+#[tactic(auto, unfolding(crate::specs::Traced::fault))]
+fn check_point(s: TracedPoint) -> Result<(), Refusal>
+    ensures { outcome result ≡ fault s }
 {
     if !is_tolerated(s) {
-        return Checked::Refused(Refusal::BadTolerance);
+        return Err(Refusal::BadTolerance);
     }
     if !is_boxed(s) {
-        return Checked::Refused(Refusal::OutsideBox);
+        return Err(Refusal::OutsideBox);
     }
-    Checked::Passed
+    Ok(())
 }
 
 // The first faulty traced point decides.
-fn check_points(list: &[i16]) -> Checked
-    requires { length list.now % 3 ≡ 0 }
-    ensures { verdict result ≡ first_fault (traced list.now) }
+#[tactic(auto, unfolding(crate::specs::Traced::first_fault))]
+fn check_points(list: &[i16]) -> Result<(), Refusal>
+    ensures { outcome result ≡ first_fault (traced list.now) }
 {
-    let n = list.len() / 3;
-    for i in 0..n {
-        match check_point(square_corners::traced_at(list, i)) {
-            Checked::Passed => {}
-            Checked::Refused(r) => {
-                return Checked::Refused(r);
-            }
-        }
+    for s in square_corners::traced_points(list) {
+        check_point(s)?;
     }
-    Checked::Passed
+    Ok(())
 }
 
 // The call's checks, in their order.
-fn check(list: &[i16]) -> Checked
+#[tactic(auto, unfolding(crate::specs::Traced::traced_of))]
+fn check(list: &[i16]) -> Result<(), Refusal>
     ensures { Checks list.now result }
 {
     if list.len() % 3 != 0 {
-        return Checked::Refused(Refusal::OddLength);
+        return Err(Refusal::OddLength);
     }
-    if list.len() == 0 {
-        return Checked::Refused(Refusal::NoPoint);
+    if list.is_empty() {
+        return Err(Refusal::NoPoint);
     }
     if 1024 < list.len() / 3 {
-        return Checked::Refused(Refusal::TooMany);
+        return Err(Refusal::TooMany);
     }
     check_points(list)
 }
 
 // The disk of the corners of all squares, with room lent for them.
 fn solve(list: &[i16], room: &mut [i16]) -> Disk
-    requires fact_1 { Accepted list.now }
-    requires fact_2 { length room.old ≡ 8 * (length list.now / 3) }
+    requires accepted { Accepted list.now }
+    requires room_length { length room.old ≡ 8 * (length list.now / 3) }
     ensures { numbers result ≡ disk_of (all_corners (traced list.now)) }
 {
     square_corners::lay_out(list, room);
-    let run = welzl::smallest(room);
-    run.disk
+    welzl::smallest(room).disk
 }
 
-// Most lists are short, and clearing room for the longest would take a good part of their time.
-fn solve_short(list: &[i16]) -> Disk
-    requires fact_1 { Accepted list.now }
-    requires fact_2 { length list.now ≤ 96 }
+// The same, with room for N numbers.
+fn solve_in_room<const N: usize>(list: &[i16]) -> Disk
+    requires accepted { Accepted list.now }
+    requires fits { (8 * (length list.now / 3) ≤ N) × (N ≤ 8192) }
     ensures { numbers result ≡ disk_of (all_corners (traced list.now)) }
 {
-    let mut room = [0i16; 256];
+    let mut room = [0i16; N];
     let m = 8 * (list.len() / 3);
     solve(list, &mut room[..m])
 }
 
-fn solve_long(list: &[i16]) -> Disk
-    requires { Accepted list.now }
-    ensures { numbers result ≡ disk_of (all_corners (traced list.now)) }
+// The smallest disk that holds the list's points wherever they may really be. The list is only read. Most lists are short, and clearing
+// room for the longest would take a good part of their time.
+pub fn smallest_disk_of_traced(list: &[i16]) -> Result<Disk, Refusal>
+    ensures answer { outcome_by numbers result ≡ traced_of list.now }
 {
-    let mut room = [0i16; 8192];
-    let m = 8 * (list.len() / 3);
-    solve(list, &mut room[..m])
-}
-
-// The smallest disk that holds the list's points wherever they may really be. The list is only read.
-pub fn smallest_disk_of_traced(list: &[i16]) -> Traced
-    ensures answer { outcome result ≡ traced_of list.now }
-    ensures list { list.now ≡ list.now }
-{
-    match check(list) {
-        Checked::Refused(r) => Traced::Refused(r),
-        Checked::Passed => {
-            if list.len() <= 96 {
-                return Traced::Found(solve_short(list));
-            }
-            Traced::Found(solve_long(list))
-        }
+    check(list)?;
+    if list.len() <= 96 {
+        return Ok(solve_in_room::<256>(list));
     }
+    Ok(solve_in_room::<8192>(list))
 }

@@ -1,6 +1,6 @@
 -- The run on a whole list, from no point fixed: its disk can be written, and is the answer.
 --
---   Answered P d              == d in lowest terms is `disk_of P`, and no step of writing it overflows
+--   Answered P d              == d in lowest terms is `disk_of P`; its e is positive and its numbers are small
 --   Whole l after d tests     == d, tests and `after` are what the text's procedure gives for l's points
 --   kept_answer               : the disk that is kept at the end is the answer
 --   ran-whole                 : the promise `Ran`, of a whole list with no point fixed, is `Whole`
@@ -8,7 +8,8 @@ use mathlib.Core.Path.{◌≡◌, sym, ap, subst}
 use mathlib.Core.List.{List, [], ◌∷◌, append-nil}
 use Prim.Native.Nat.{ℕ, ◌*◌, ◌≤◌, ◌<◌}
 use native.Mathlib.Omega.{arith}
-use lib.IntN.{ℤ}
+use lib.IntN.{ℤ, pos}
+use Rattle.integers.specs.Order.{◌≺◌}
 use lib.ListN.{length, drop, drop_of_length-le}
 use Rattle.geometry.specs.declared.Point.{Point}
 use Rattle.geometry.specs.Points.{points, flat}
@@ -16,16 +17,16 @@ use Rattle.geometry.proofs.PointLists.{first_points_all}
 use Rattle.disks.specs.Procedure.{Cover, mtf, disk_in, disk_of, tests_of, order_of}
 use Rattle.disks.proofs.Welzl.{mtf-ends, smallest}
 use Rattle.relative_disks.specs.declared.RelativeDisk.{RelativeDisk}
-use Rattle.relative_disks.specs.Relative.{in_lowest_terms, Keeps}
+use Rattle.relative_disks.specs.Relative.{Small, in_lowest_terms, Keeps}
 use Rattle.relative_disks.proofs.RelativeLaws.{weight_in, stands_proper}
 use Rattle.fixed_points.specs.declared.Boundary.TheVariants.{None}
-use Rattle.lowest_disks.specs.AnswerNumbers.{AnswerNumbers}
 use Rattle.inner_level.specs.Ran.{Ran}
 
 -- ---- the disk
 
 pub record Answered (P : List Point) (d : RelativeDisk) : Type 0 where
-  pub numbers : AnswerNumbers d.e d.qx d.qy d.gx d.gy
+  pub proper : pos 0 ≺ d.e
+  pub small : Small d
   pub disk : in_lowest_terms d ≡ disk_of P
 
 pub kept_answer : (P : List Point) (d : RelativeDisk) → 0 < length P → Keeps d (mtf [] P).cover → Answered P d
@@ -33,14 +34,8 @@ kept_answer [] d some k = absurd (omega arith)
 kept_answer (p ∷ P) d some k =
     let ended = stands_proper k.stands (subst (λ (c : Cover). 1 ≤ weight_in c) (sym (mtf-ends p P)) (smallest p P).proper) in
     record {
-      numbers = record {
-        proper = ended.positive_e;
-        e_few = k.small.e_small;
-        qx_few = k.small.qx_small;
-        qy_few = k.small.qy_small;
-        gx_few = k.small.gx_small;
-        gy_few = k.small.gy_small;
-      };
+      proper = ended.positive_e;
+      small = k.small;
       disk = ap disk_in (sym ended.written);
     }
 

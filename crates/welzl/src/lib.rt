@@ -34,6 +34,7 @@ pub fn mtf(list: &mut [i16], n: usize, fixed: Boundary) -> RelativeRun
         return RelativeRun { disk, tests: 0 };
     }
     let mut inner: u64 = 0;
+    // By index: the turns move points of the list.
     for i in 0..n {
         let p = geometry::point_at(list, i);
         if relative_disks::is_outside(disk, p) {
@@ -61,10 +62,8 @@ pub fn smallest(list: &mut [i16]) -> Run
 {
     let n = list.len() / 2;
     let run = mtf(list, n, Boundary::None);
-    let d = run.disk;
-    let disk = lowest_disks::written(d.e, d.qx, d.qy, d.gx, d.gy);
     Run {
-        disk,
+        disk: lowest_disks::written(run.disk),
         tests: run.tests,
     }
 }

@@ -10,36 +10,27 @@ use Rattle.relative_disks.specs.Relative.{is_outside}
 use Rattle.relative_disks.proofs.RelativeLaws.{near_box}
 use Rattle.fitting.proofs.Fronts.{by_place}
 use Rattle.fitting.proofs.first_outside.Goals as goal
-use Rattle.fitting.proofs.first_outside.Goals.{After-is_outside}
-
--- the point that is looked at is the list's
-told : (c : After-is_outside) →
-    c.is_outside.result ≡ is_outside c.args.d (point_at c.args.list.now c.loop-i.i)
-told c = c.is_outside.ensures ∙ ap (is_outside c.args.d) c.point_at.ensures
 
 -- what holds below i and at i holds below i + 1
 up_to : (Z : ℕ → Type 0) (j i : ℕ) → (j < i → Z j) → Z i → j < i + 1 → Z j
 up_to Z j i below here h = by_place j i below (λ k. subst Z (le_antisymm k (omega arith)) here)
 
 pub loop-i-init : goal.loop-i-init
-loop-i-init c = (omega arith, c.requires.fact_1.0, λ j low high. absurd (omega arith))
+loop-i-init c = λ j low high. absurd (omega arith)
 
-pub point_at-requires : goal.point_at-requires
-point_at-requires c = omega (arith, c.requires.fact_1.1)
-
-pub is_outside-requires : goal.is_outside-requires
-is_outside-requires c =
+pub is_outside-requires-clause-near : goal.is_outside-requires-clause-near
+is_outside-requires-clause-near c =
     let i = c.loop-i.i in
-    let fits : 2 * i + 2 ≤ length c.args.list.now = omega (arith, c.requires.fact_1.1, c.loop-i-test.true) in
-    record { fact_1 = c.requires.fact_2; fact_2 = rw c.point_at.ensures (near_box _ (c.requires.fact_3.in_box _ (point_at_in i c.args.list.now fits))) }
+    let fits : 2 * i + 2 ≤ length c.args.list.now = omega (arith, c.requires.places.1, c.loop-i-test.true) in
+    rw c.point_at.ensures (near_box _ (c.requires.boxed.in_box _ (point_at_in i c.args.list.now fits)))
 
 pub returns-then-is_outside : goal.returns-then-is_outside
 returns-then-is_outside c =
     record {
-      low = c.loop-i.invariant.0;
-      high = c.loop-i.invariant.1;
-      held_before = c.loop-i.invariant.2;
-      outside_there = λ h. sym (told (goal.at.returns-then-is_outside c).After-is_outside) ∙ c.if-is_outside.true;
+      low = c.loop-i.auto.i;
+      high = c.loop-i-test.true;
+      held_before = c.loop-i.invariant;
+      outside_there = sym (c.is_outside.ensures ∙ ap (is_outside c.args.d) c.point_at.ensures) ∙ c.if-is_outside.true;
     }
 
 pub loop-i-preserved : goal.loop-i-preserved
@@ -47,17 +38,9 @@ loop-i-preserved c =
     let l = c.args.list.now in
     let d = c.args.d in
     let i = c.loop-i.i in
-    let here : is_outside d (point_at l i) ≡ false = sym (told (goal.at.loop-i-preserved c).After-is_outside) ∙ c.if-is_outside.false in (
-      omega (arith, c.loop-i.invariant.0),
-      omega arith,
-      (λ j low high. up_to (λ (n : ℕ). is_outside d (point_at l n) ≡ false) j i (c.loop-i.invariant.2 j low) here high),
-    )
+    let here : is_outside d (point_at l i) ≡ false =
+    sym (c.is_outside.ensures ∙ ap (is_outside d) c.point_at.ensures) ∙ c.if-is_outside.false in
+    λ j low high. up_to (λ (n : ℕ). is_outside d (point_at l n) ≡ false) j i (c.loop-i.invariant j low) here high
 
 pub returns : goal.returns
-returns c =
-    record {
-      low = c.loop-i.invariant.0;
-      high = c.loop-i.invariant.1;
-      held_before = c.loop-i.invariant.2;
-      outside_there = λ h. absurd (omega (arith, h, c.loop-i-test.false));
-    }
+returns c = λ j low high. c.loop-i.invariant j low (omega (arith, high, c.loop-i-test.false))

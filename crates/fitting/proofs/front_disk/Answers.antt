@@ -57,7 +57,7 @@ module _ (c : After-mtf-run) where
   after = c.mtf-run.new.list
 
   asked : Given R k l
-  asked = start.requires.fact_2
+  asked = start.requires.given
 
   ran : Ran R k l after d c.mtf-run.result.tests
   ran = c.mtf-run.ensures
@@ -78,14 +78,14 @@ module _ (c : After-mtf-run) where
   from_left p i = perm_in (run_permuted R Q) (subst (In p) left i)
 
   flat : d.e ≤ℤ pos 0 → NoneFits (members R) Q
-  flat = flat_none (members R) Q (members_most R) start.requires.fact_1.some start.requires.fact_1.different asked.list_boxed d ran.disk_is
+  flat = flat_none (members R) Q (members_most R) start.requires.fixes.some start.requires.fixes.different asked.list_boxed d ran.disk_is
 
   outside : (i : ℕ) → i < k → is_outside d (point_at after i) ≡ true → NoneFits (members R) Q
-  outside i h = outside_none (members R) Q (members_most R) start.requires.fact_1.some start.requires.fact_1.different asked.list_boxed d ran.disk_is
+  outside i h = outside_none (members R) Q (members_most R) start.requires.fixes.some start.requires.fixes.different asked.list_boxed d ran.disk_is
       (point_at after i) (from_left (point_at after i) (point_at-first_points i k after h fits))
 
   held : pos 0 <ℤ d.e → ((i : ℕ) → i < k → is_outside d (point_at after i) ≡ false) → Found (members R) Q d
-  held h all = held_found (members R) Q (members_most R) start.requires.fact_1.some start.requires.fact_1.different asked.list_boxed d ran.disk_is h
+  held h all = held_found (members R) Q (members_most R) start.requires.fixes.some start.requires.fixes.different asked.list_boxed d ran.disk_is h
       (λ p i. each_first (λ (q : Point). is_outside d q ≡ false) k after fits all p (to_left p i))
 
 -- e as the machine reads it
@@ -98,24 +98,35 @@ below_one {z} h = nonneg (z ∷ []) (lt h) (search poly depth 30) tt
 from_one : {z : ℤ} → pos 1 ≤ℤ z → pos 0 <ℤ z
 from_one {z} h = positive (z ∷ []) (le h) (search poly depth 30) tt
 
-pub returns-then-d-lt1 : goal.returns-then-d-lt1
-returns-then-d-lt1 c =
-    record { fit = flat (goal.at.returns-then-d-lt1 c).After-mtf-run (below_one (lt_true (d (goal.at.returns-then-d-lt1 c).After-mtf-run).e (pos 1) (ap (λ (z : ℤ). lt_z z (pos 1)) (sym (weight (goal.at.returns-then-d-lt1 c).After-mtf-run)) ∙ c.if-d-lt1.true))); order = order (goal.at.returns-then-d-lt1 c).After-mtf-run }
+pub returns-then-d-lt1-clause-fit : goal.returns-then-d-lt1-clause-fit
+returns-then-d-lt1-clause-fit c =
+    let s = (goal.at.returns-then-d-lt1-clause-fit c).After-mtf-run in
+    flat s (below_one (lt_true (d s).e (pos 1) (ap (λ (z : ℤ). lt_z z (pos 1)) (sym (weight s)) ∙ c.if-d-lt1.true)))
 
-pub first_outside-requires : goal.first_outside-requires
-first_outside-requires c =
-    record { fact_1 = (omega arith, fits (goal.at.first_outside-requires c).After-mtf-run); fact_2 = (ran (goal.at.first_outside-requires c).After-mtf-run).disk_is.small; fact_3 = permuted_boxed (order (goal.at.first_outside-requires c).After-mtf-run) (start (goal.at.first_outside-requires c).After-mtf-run).requires.fact_3 }
+pub returns-then-d-lt1-clause-order : goal.returns-then-d-lt1-clause-order
+returns-then-d-lt1-clause-order c = order (goal.at.returns-then-d-lt1-clause-order c).After-mtf-run
 
-pub returns-then-first_outside-k : goal.returns-then-first_outside-k
-returns-then-first_outside-k c =
-    let s = (goal.at.returns-then-first_outside-k c).After-mtf-run in
-    let first = c.first_outside in
-    let h = c.if-first_outside-k.true in
-    record { fit = outside s first.result h (first.ensures.outside_there h); order = order s }
+pub first_outside-requires-clause-places : goal.first_outside-requires-clause-places
+first_outside-requires-clause-places c = (omega arith, fits (goal.at.first_outside-requires-clause-places c).After-mtf-run)
 
-pub returns : goal.returns
-returns c =
-    let s = (goal.at.returns c).After-mtf-run in
-    let first = c.first_outside in
+pub first_outside-requires-clause-small : goal.first_outside-requires-clause-small
+first_outside-requires-clause-small c = (ran (goal.at.first_outside-requires-clause-small c).After-mtf-run).disk_is.small
+
+pub first_outside-requires-clause-boxed : goal.first_outside-requires-clause-boxed
+first_outside-requires-clause-boxed c = permuted_boxed (order (goal.at.first_outside-requires-clause-boxed c).After-mtf-run) c.requires.boxed
+
+pub returns-in-Some-clause-fit : goal.returns-in-Some-clause-fit
+returns-in-Some-clause-fit c =
+    outside (goal.at.returns-in-Some-clause-fit c).After-mtf-run c.in-Some.field-0 c.in-Some.ensures.high c.in-Some.ensures.outside_there
+
+pub returns-in-Some-clause-order : goal.returns-in-Some-clause-order
+returns-in-Some-clause-order c = order (goal.at.returns-in-Some-clause-order c).After-mtf-run
+
+pub returns-in-None-clause-fit : goal.returns-in-None-clause-fit
+returns-in-None-clause-fit c =
+    let s = (goal.at.returns-in-None-clause-fit c).After-mtf-run in
     let some = from_one (lt_false (d s).e (pos 1) (ap (λ (z : ℤ). lt_z z (pos 1)) (sym (weight s)) ∙ c.if-d-lt1.false)) in
-    record { fit = held s some (λ i h. first.ensures.held_before i (omega arith) (omega (arith, h, c.if-first_outside-k.false))); order = order s }
+    held s some (λ i h. c.in-None.ensures i (omega arith) h)
+
+pub returns-in-None-clause-order : goal.returns-in-None-clause-order
+returns-in-None-clause-order c = order (goal.at.returns-in-None-clause-order c).After-mtf-run

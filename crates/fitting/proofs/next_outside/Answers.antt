@@ -1,32 +1,21 @@
 -- `fitting::next_outside` meets its contract: the places from `from` on, and those before it, are all.
 use native.Mathlib.Omega.{arith}
+use Prim.Native.Nat.{ℕ, ◌≤◌}
+use lib.IntN.{ℤ}
+use mathlib.Core.List.{List}
+use Rattle.std.specs.Prelude.{Option, Some, None}
+use Rattle.relative_disks.specs.declared.RelativeDisk.{RelativeDisk}
+use Rattle.fitting.specs.Decides.{Held, FirstFrom, OutsideAt}
 use Rattle.fitting.proofs.Fronts.{by_place}
 use Rattle.fitting.proofs.next_outside.Goals as goal
 
-pub returns-then-behind-n : goal.returns-then-behind-n
-returns-then-behind-n c = record {
-  most = c.first_outside-behind.ensures.high;
-  outside_there = c.first_outside-behind.ensures.outside_there;
-  none = λ e. absurd (omega (arith, e, c.if-behind-n.true));
-}
+-- where no place from `from` on is outside, one before it decides
+both : (l : List ℤ) (d : RelativeDisk) (from n : ℕ) → from ≤ n → Held l d from n → (r : Option ℕ) → FirstFrom l d 0 from r → OutsideAt l d n r
+both l d from n h behind (Some r) p = (omega (arith, p.high, h), p.outside_there)
+both l d from n h behind None before = λ i low high. by_place i from (before i low) (λ k. behind i k high)
 
-pub returns-then-before-from : goal.returns-then-before-from
-returns-then-before-from c =
-    let before = c.first_outside-before.ensures in
-    record {
-      most = omega (arith, before.high, c.requires.fact_1);
-      outside_there = λ h. before.outside_there c.if-before-from.true;
-      none = λ e. absurd (omega (arith, e, c.requires.fact_1, c.if-before-from.true));
-    }
+pub returns-in-Some : goal.returns-in-Some
+returns-in-Some c = (c.in-Some.ensures.high, c.in-Some.ensures.outside_there)
 
 pub returns : goal.returns
-returns c =
-    let behind = c.first_outside-behind.ensures in
-    let before = c.first_outside-before.ensures in
-    record {
-      most = omega arith;
-      outside_there = λ h. absurd (omega (arith, h));
-      none = λ e i h. by_place i c.args.from
-          (λ k. before.held_before i (omega arith) (omega (arith, k, c.if-before-from.false)))
-          (λ k. behind.held_before i k (omega (arith, h, c.if-behind-n.false)));
-    }
+returns c = both c.args.list.now c.args.d c.args.from _ c.requires.place c.in_default.ensures c.first_outside-2.result c.first_outside-2.ensures

@@ -20,33 +20,17 @@ near : {R S : Boundary} → R ≡ S → Boxed (members R) → (p : Point) → Me
 near e b p m = near_box p (boxed e b p m)
 
 pub diameter-requires : goal.diameter-requires
-diameter-requires c =
-    let b = c.requires in
-    let n = near c.in-Two.is b c.in-Two.a (Memᴰ.head refl) in
-    let m = near c.in-Two.is b c.in-Two.b (Memᴰ.tail (Memᴰ.head refl)) in
-    rw (
-      wide-near n.x_near c.wide-in-Two.ensures,
-      wide-near n.y_near c.wide-in-Two-2.ensures,
-      wide-near m.x_near c.wide-in-Two-3.ensures,
-      wide-near m.y_near c.wide-in-Two-4.ensures,
-    )
-    record { fact_1 = (n.x_near, n.y_near); fact_2 = (m.x_near, m.y_near) }
+diameter-requires c = record {
+  near_a = near c.in-Two.is c.requires c.in-Two.a (Memᴰ.head refl);
+  near_b = near c.in-Two.is c.requires c.in-Two.b (Memᴰ.tail (Memᴰ.head refl));
+}
 
 pub circle-requires : goal.circle-requires
-circle-requires c =
-    let b = c.requires in
-    let n = near c.in-Three.is b c.in-Three.a (Memᴰ.head refl) in
-    let m = near c.in-Three.is b c.in-Three.b (Memᴰ.tail (Memᴰ.head refl)) in
-    let k = near c.in-Three.is b c.in-Three.c (Memᴰ.tail (Memᴰ.tail (Memᴰ.head refl))) in
-    rw (
-      wide-near n.x_near c.wide-in-Three.ensures,
-      wide-near n.y_near c.wide-in-Three-2.ensures,
-      wide-near m.x_near c.wide-in-Three-3.ensures,
-      wide-near m.y_near c.wide-in-Three-4.ensures,
-      wide-near k.x_near c.wide-in-Three-5.ensures,
-      wide-near k.y_near c.wide-in-Three-6.ensures,
-    )
-    record { fact_1 = (n.x_near, n.y_near); fact_2 = (m.x_near, m.y_near); fact_3 = (k.x_near, k.y_near) }
+circle-requires c = record {
+  near_a = near c.in-Three.is c.requires c.in-Three.a (Memᴰ.head refl);
+  near_b = near c.in-Three.is c.requires c.in-Three.b (Memᴰ.tail (Memᴰ.head refl));
+  near_c = near c.in-Three.is c.requires c.in-Three.c (Memᴰ.tail (Memᴰ.tail (Memᴰ.head refl)));
+}
 
 pub returns-in-None : goal.returns-in-None
 returns-in-None c = rw c.in-None.is keeps_none
@@ -61,35 +45,14 @@ returns-in-One c =
 pub returns-in-Two : goal.returns-in-Two
 returns-in-Two c =
     let b = c.requires in
-    let n = near c.in-Two.is b c.in-Two.a (Memᴰ.head refl) in
-    let m = near c.in-Two.is b c.in-Two.b (Memᴰ.tail (Memᴰ.head refl)) in
-    rw (
-      c.in-Two.is,
-      c.diameter.ensures,
-      wide-near n.x_near c.wide-in-Two.ensures,
-      wide-near n.y_near c.wide-in-Two-2.ensures,
-      wide-near m.x_near c.wide-in-Two-3.ensures,
-      wide-near m.y_near c.wide-in-Two-4.ensures,
-    )
+    rw (c.in-Two.is, c.diameter.ensures)
     (keeps_diameter c.in-Two.a c.in-Two.b
     (boxed c.in-Two.is b c.in-Two.a (Memᴰ.head refl)) (boxed c.in-Two.is b c.in-Two.b (Memᴰ.tail (Memᴰ.head refl))))
 
 pub returns-in-Three : goal.returns-in-Three
 returns-in-Three c =
     let b = c.requires in
-    let n = near c.in-Three.is b c.in-Three.a (Memᴰ.head refl) in
-    let m = near c.in-Three.is b c.in-Three.b (Memᴰ.tail (Memᴰ.head refl)) in
-    let k = near c.in-Three.is b c.in-Three.c (Memᴰ.tail (Memᴰ.tail (Memᴰ.head refl))) in
-    rw (
-      c.in-Three.is,
-      c.circle.ensures,
-      wide-near n.x_near c.wide-in-Three.ensures,
-      wide-near n.y_near c.wide-in-Three-2.ensures,
-      wide-near m.x_near c.wide-in-Three-3.ensures,
-      wide-near m.y_near c.wide-in-Three-4.ensures,
-      wide-near k.x_near c.wide-in-Three-5.ensures,
-      wide-near k.y_near c.wide-in-Three-6.ensures,
-    )
+    rw (c.in-Three.is, c.circle.ensures)
     (keeps_circle c.in-Three.a c.in-Three.b c.in-Three.c
     (boxed c.in-Three.is b c.in-Three.a (Memᴰ.head refl)) (boxed c.in-Three.is b c.in-Three.b (Memᴰ.tail (Memᴰ.head refl)))
     (boxed c.in-Three.is b c.in-Three.c (Memᴰ.tail (Memᴰ.tail (Memᴰ.head refl)))))

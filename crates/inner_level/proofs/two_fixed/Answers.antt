@@ -51,12 +51,14 @@ point_at-p-requires c = omega (arith, kept (goal.at.point_at-p-requires c).At-lo
 
 pub is_outside-requires : goal.is_outside-requires
 is_outside-requires c =
-    record { fact_1 = c.loop-i.invariant.1.disk_is.small; fact_2 = rw (c.point_at-p.ensures ∙ same_point (goal.at.is_outside-requires c).In-loop-i) (near_box _ (boxed (goal.at.is_outside-requires c).In-loop-i)) }
+    let inside = (goal.at.is_outside-requires c).In-loop-i in
+    record { small = c.loop-i.invariant.1.disk_is.small; near = rw (c.point_at-p.ensures ∙ same_point inside) (near_box _ (boxed inside)) }
 
 pub boundary_disk-disk-requires-then-is_outside : goal.boundary_disk-disk-requires-then-is_outside
 boundary_disk-disk-requires-then-is_outside c =
-    subst (λ (q : Point). Boxed (members (added (Two c.args.a c.args.b) q))) (sym (c.point_at-p.ensures ∙ same_point (goal.at.boundary_disk-disk-requires-then-is_outside c).In-loop-i))
-    (added-boxed (Two c.args.a c.args.b) (point_at c.args.list.now c.loop-i.i) c.requires.fixed_boxed (boxed (goal.at.boundary_disk-disk-requires-then-is_outside c).In-loop-i))
+    let inside = (goal.at.boundary_disk-disk-requires-then-is_outside c).In-loop-i in
+    subst (λ (q : Point). Boxed (members (added (Two c.args.a c.args.b) q))) (sym (c.point_at-p.ensures ∙ same_point inside))
+    (added-boxed (Two c.args.a c.args.b) (point_at c.args.list.now c.loop-i.i) c.requires.fixed_boxed (boxed inside))
 
 pub move_to_front-requires : goal.move_to_front-requires
 move_to_front-requires c =

@@ -6,9 +6,8 @@ use native.Mathlib.Omega.{arith}
 use lib.IntN.{ℤ, pos, nat_abs, ◌+ℤ◌, ◌*ℤ◌}
 use mir.Syntax.{w64}
 use mir.Val.{to_z, of_z}
-use mir.Facts.{to_z-of_z}
 use Rattle.integers.specs.Order.{Within}
-use Rattle.integers.proofs.Bounds.{Value, v_leaf, v_nat, v_abs, v_mul, v_add, v_back, fits, back}
+use Rattle.integers.proofs.Bounds.{Value, v_leaf, v_nat, v_abs, v_mul, v_add, v_back, fits, back, leaf_back}
 use Rattle.divisors.specs.Divisor.{lowest}
 use Rattle.divisors.proofs.LowestTerms.{nat_abs_quot}
 use Rattle.divisors.specs.declared.Triple.{Triple}
@@ -18,14 +17,14 @@ use Rattle.disks.proofs.LowestTerms.{positive_is}
 use Rattle.wide_numbers.specs.Value.{value}
 use Rattle.lowest_disks.proofs.ShiftedTerms.{shifted_terms}
 use Rattle.lowest_disks.proofs.written.Goals as goal
-use Rattle.lowest_disks.proofs.written.Goals.{After-lowest_terms-t, After-magnitude, Start}
+use Rattle.lowest_disks.proofs.written.Goals.{After-lowest_terms-t, After-unsigned_abs, Start}
 
 -- ---- what is known of the calls' results
 
-weight_is : (c : After-magnitude) → c.magnitude.result ≡ nat_abs c.args.e
-weight_is c = c.magnitude.ensures ∙ ap nat_abs (to_z-of_z c.ranges.e)
+weight_is : (c : After-unsigned_abs) → c.unsigned_abs.result ≡ nat_abs c.args.d.e
+weight_is c = c.unsigned_abs.ensures.value ∙ ap nat_abs (leaf_back w64 c.args.d.e em.scale c.requires.small.e_small tt)
 
-weight_some : (c : After-magnitude) → 0 < nat_abs c.args.e
+weight_some : (c : After-unsigned_abs) → 0 < nat_abs c.args.d.e
 weight_some c = (positive_is c.requires.proper).1
 
 -- how large a number of g can be
@@ -39,21 +38,26 @@ module _ (c : After-lowest_terms-t) where
   abbrev t : Triple
   t = c.lowest_terms-t.result
 
-  terms : t ≡ lowest start.args.gx start.args.gy (nat_abs start.args.e)
-  terms = c.lowest_terms-t.ensures ∙ (λ i. lowest (to_z-of_z start.ranges.gx i) (to_z-of_z start.ranges.gy i) (weight_is (goal.at.After-lowest_terms-t c).After-magnitude i))
+  terms : t ≡ lowest start.args.d.gx start.args.d.gy (nat_abs start.args.d.e)
+  terms =
+      let k = start.requires.small in
+      let x = leaf_back w64 start.args.d.gx most k.gx_small tt in
+      let y = leaf_back w64 start.args.d.gy most k.gy_small tt in
+      let e = weight_is (goal.at.After-lowest_terms-t c).After-unsigned_abs in
+      c.lowest_terms-t.ensures ∙ (λ i. lowest (x i) (y i) (e i))
 
   e_few : t.e ≤ em.scale
-  e_few = le_trans (le_of_eq (ap (λ (r : Triple). r.e) terms)) (le_trans (div-le_self _ _) start.requires.e_few.within)
+  e_few = le_trans (le_of_eq (ap (λ (r : Triple). r.e) terms)) (le_trans (div-le_self _ _) start.requires.small.e_small.within)
 
   x_few : nat_abs t.x ≤ most
   x_few =
-      le_trans (le_of_eq (ap (λ (r : Triple). nat_abs r.x) terms ∙ nat_abs_quot start.args.gx _))
-      (le_trans (div-le_self _ _) start.requires.gx_few.within)
+      le_trans (le_of_eq (ap (λ (r : Triple). nat_abs r.x) terms ∙ nat_abs_quot start.args.d.gx _))
+      (le_trans (div-le_self _ _) start.requires.small.gx_small.within)
 
   y_few : nat_abs t.y ≤ most
   y_few =
-      le_trans (le_of_eq (ap (λ (r : Triple). nat_abs r.y) terms ∙ nat_abs_quot start.args.gy _))
-      (le_trans (div-le_self _ _) start.requires.gy_few.within)
+      le_trans (le_of_eq (ap (λ (r : Triple). nat_abs r.y) terms ∙ nat_abs_quot start.args.d.gy _))
+      (le_trans (div-le_self _ _) start.requires.small.gy_small.within)
 
 -- ---- q·e + z, as the machine has it
 
@@ -65,46 +69,50 @@ abbrev centre : (q : ℤ) (e : ℕ) (z : ℤ) → Within (largest em) q → e �
 centre q e z h k l = v_add (v_back w64 (scaled q e h k)) (v_back w64 {z = z} (v_abs {z = z} l))
 
 pub lowest_terms-t-requires : goal.lowest_terms-t-requires
-lowest_terms-t-requires c = rw (weight_is c) (record { e_nonzero = weight_some c; e_bound = omega (arith, c.requires.e_few.within) })
+lowest_terms-t-requires c =
+    let s = (goal.at.lowest_terms-t-requires c).After-unsigned_abs in
+    rw (weight_is s) (record { e_nonzero = weight_some s; e_bound = omega (arith, c.requires.small.e_small.within) })
 
-pub overflow_cast-te : goal.overflow_cast-te
-overflow_cast-te c =
-    let s = (goal.at.overflow_cast-te c).After-lowest_terms-t in
+pub overflow_cast-e : goal.overflow_cast-e
+overflow_cast-e c =
+    let s = (goal.at.overflow_cast-e c).After-lowest_terms-t in
     fits (v_abs {z = pos (t s).e} (e_few s)) tt
 
-pub overflow_mul-x : goal.overflow_mul-x
-overflow_mul-x c =
-    let s = (goal.at.overflow_mul-x c).After-lowest_terms-t in
-    fits (scaled (start s).args.qx (t s).e (start s).requires.qx_few (e_few s)) tt
+pub overflow_mul-result : goal.overflow_mul-result
+overflow_mul-result c =
+    let s = (goal.at.overflow_mul-result c).After-lowest_terms-t in
+    fits (scaled (start s).args.d.qx (t s).e (start s).requires.small.qx_small (e_few s)) tt
 
-pub overflow_add-x : goal.overflow_add-x
-overflow_add-x c =
-    let s = (goal.at.overflow_add-x c).After-lowest_terms-t in
-    fits (centre (start s).args.qx (t s).e (t s).x (start s).requires.qx_few (e_few s) (x_few s)) tt
+pub overflow_add-result : goal.overflow_add-result
+overflow_add-result c =
+    let s = (goal.at.overflow_add-result c).After-lowest_terms-t in
+    fits (centre (start s).args.d.qx (t s).e (t s).x (start s).requires.small.qx_small (e_few s) (x_few s)) tt
 
-pub overflow_mul-y : goal.overflow_mul-y
-overflow_mul-y c =
-    let s = (goal.at.overflow_mul-y c).After-lowest_terms-t in
-    fits (scaled (start s).args.qy (t s).e (start s).requires.qy_few (e_few s)) tt
+pub overflow_mul-result-2 : goal.overflow_mul-result-2
+overflow_mul-result-2 c =
+    let s = (goal.at.overflow_mul-result-2 c).After-lowest_terms-t in
+    fits (scaled (start s).args.d.qy (t s).e (start s).requires.small.qy_small (e_few s)) tt
 
-pub overflow_add-y : goal.overflow_add-y
-overflow_add-y c =
-    let s = (goal.at.overflow_add-y c).After-lowest_terms-t in
-    fits (centre (start s).args.qy (t s).e (t s).y (start s).requires.qy_few (e_few s) (y_few s)) tt
+pub overflow_add-result-2 : goal.overflow_add-result-2
+overflow_add-result-2 c =
+    let s = (goal.at.overflow_add-result-2 c).After-lowest_terms-t in
+    fits (centre (start s).args.d.qy (t s).e (t s).y (start s).requires.small.qy_small (e_few s) (y_few s)) tt
 
 pub returns : goal.returns
 returns c =
     let at-start = (goal.at.returns c).After-lowest_terms-t in
-    let a = (start at-start).args in
+    let a = (start at-start).args.d in
     let h = (start at-start).requires in
     let E = nat_abs a.e in
-    let n = value c.sum_of_squares-s.result in
-    let x = back w64 (centre a.qx (t at-start).e (t at-start).x h.qx_few (e_few at-start) (x_few at-start)) tt in
-    let y = back w64 (centre a.qy (t at-start).e (t at-start).y h.qy_few (e_few at-start) (y_few at-start)) tt in
+    let n = value c.sum_of_squares.result in
+    let x = back w64 (centre a.qx (t at-start).e (t at-start).x h.small.qx_small (e_few at-start) (x_few at-start)) tt in
+    let y = back w64 (centre a.qy (t at-start).e (t at-start).y h.small.qy_small (e_few at-start) (y_few at-start)) tt in
     let square : pos n ≡ norm (t at-start).x (t at-start).y =
-    c.sum_of_squares-s.ensures
-    ∙ ap₂ norm (back w64 {z = (t at-start).x} (v_abs {z = (t at-start).x} (x_few at-start)) tt) (back w64 {z = (t at-start).y} (v_abs {z = (t at-start).y} (y_few at-start)) tt) in
+    c.sum_of_squares.ensures
+    ∙ ap₂ norm
+    (back w64 {z = (t at-start).x} (v_abs {z = (t at-start).x} (x_few at-start)) tt)
+    (back w64 {z = (t at-start).y} (v_abs {z = (t at-start).y} (y_few at-start)) tt) in
     (λ i. record { x = x i; y = y i; e = (t at-start).e; s = n })
     ∙ ap (λ (r : Triple). record { x = a.qx *ℤ pos r.e +ℤ r.x; y = a.qy *ℤ pos r.e +ℤ r.y; e = r.e; s = n }) (terms at-start)
-    ∙ shifted_terms E a.qx a.qy a.gx a.gy (weight_some (goal.at.returns c).After-magnitude) n (square ∙ ap (λ (r : Triple). norm r.x r.y) (terms at-start))
+    ∙ shifted_terms E a.qx a.qy a.gx a.gy (weight_some (goal.at.returns c).After-unsigned_abs) n (square ∙ ap (λ (r : Triple). norm r.x r.y) (terms at-start))
     ∙ ap (λ (z : ℤ). lowest_terms (a.qx *ℤ z +ℤ a.gx) (a.qy *ℤ z +ℤ a.gy) E (nat_abs (norm a.gx a.gy))) (positive_is h.proper).0

@@ -1,31 +1,37 @@
 -- `relative_disks::circle` meets its contract, by that of `circle_about`.
 use mathlib.Core.Path.{◌∙◌}
-use Rattle.integers.proofs.Bounds.{machine, fits, at_most, reads_as}
-use Rattle.relative_disks.proofs.RelativeLaws.{same_circle}
+use Rattle.relative_disks.proofs.RelativeLaws.{same_circle, wide-near, minus-near, minus_within}
 use Rattle.relative_disks.proofs.circle.Goals as goal
 
-pub overflow_sub-bx : goal.overflow_sub-bx
-overflow_sub-bx c = fits (search machine depth 30) tt
-
-pub overflow_sub-by : goal.overflow_sub-by
-overflow_sub-by c = fits (search machine depth 30) tt
-
-pub overflow_sub-cx : goal.overflow_sub-cx
-overflow_sub-cx c = fits (search machine depth 30) tt
-
-pub overflow_sub-cy : goal.overflow_sub-cy
-overflow_sub-cy c = fits (search machine depth 30) tt
-
 pub circle_about-requires : goal.circle_about-requires
-circle_about-requires c = record { fact_1 = (at_most (search machine depth 30) tt, at_most (search machine depth 30) tt); fact_2 = (at_most (search machine depth 30) tt, at_most (search machine depth 30) tt); fact_3 = (at_most (search machine depth 30) tt, at_most (search machine depth 30) tt) }
+circle_about-requires g =
+    let a = g.requires.near_a in
+    let b = g.requires.near_b in
+    let c = g.requires.near_c in
+    rw (
+      wide-near a.x_near g.wide.ensures,
+      wide-near a.y_near g.wide-2.ensures,
+      minus-near a.x_near b.x_near g.minus.ensures,
+      minus-near a.y_near b.y_near g.minus-2.ensures,
+      minus-near a.x_near c.x_near g.minus-3.ensures,
+      minus-near a.y_near c.y_near g.minus-4.ensures,
+    )
+    (record {
+      near = (a.x_near, a.y_near);
+      u_small = (minus_within a.x_near b.x_near, minus_within a.y_near b.y_near);
+      v_small = (minus_within a.x_near c.x_near, minus_within a.y_near c.y_near);
+    })
 
 pub returns : goal.returns
-returns c =
-    c.circle_about.ensures
+returns g =
+    let a = g.requires.near_a in
+    let b = g.requires.near_b in
+    let c = g.requires.near_c in
+    g.circle_about.ensures
     ∙ same_circle
-    (reads_as (search machine depth 30) tt)
-    (reads_as (search machine depth 30) tt)
-    (reads_as (search machine depth 30) tt)
-    (reads_as (search machine depth 30) tt)
-    (reads_as (search machine depth 30) tt)
-    (reads_as (search machine depth 30) tt)
+    (wide-near a.x_near g.wide.ensures)
+    (wide-near a.y_near g.wide-2.ensures)
+    (minus-near a.x_near b.x_near g.minus.ensures)
+    (minus-near a.y_near b.y_near g.minus-2.ensures)
+    (minus-near a.x_near c.x_near g.minus-3.ensures)
+    (minus-near a.y_near c.y_near g.minus-4.ensures)

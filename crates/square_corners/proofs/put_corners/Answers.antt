@@ -29,16 +29,16 @@ module _ (c : After-struct_told-3-1) where
   t_fits = record { sfits = c.struct_told-3-1.given.1.1.0.1 }
 
   abbrev left : Value (to_z w16 (of_z w16 s.x) -ℤ to_z w16 (of_z w16 s.t))
-  left = minus_value x_fits t_fits (low_corner s c.requires.fact_2).0
+  left = minus_value x_fits t_fits (low_corner s c.requires.boxed).0
 
   abbrev right : Value (to_z w16 (of_z w16 s.x) +ℤ to_z w16 (of_z w16 s.t))
-  right = plus_value x_fits t_fits (high_corner s c.requires.fact_2).0
+  right = plus_value x_fits t_fits (high_corner s c.requires.boxed).0
 
   abbrev low : Value (to_z w16 (of_z w16 s.y) -ℤ to_z w16 (of_z w16 s.t))
-  low = minus_value y_fits t_fits (low_corner s c.requires.fact_2).1
+  low = minus_value y_fits t_fits (low_corner s c.requires.boxed).1
 
   abbrev high : Value (to_z w16 (of_z w16 s.y) +ℤ to_z w16 (of_z w16 s.t))
-  high = plus_value y_fits t_fits (high_corner s c.requires.fact_2).1
+  high = plus_value y_fits t_fits (high_corner s c.requires.boxed).1
 
 pub overflow_sub-left : goal.overflow_sub-left
 overflow_sub-left c = fits (left c) tt
@@ -68,7 +68,7 @@ returns c =
     let b = reads_as (v_back w16 (low here)) tt in
     let h = reads_as (v_back w16 (high here)) tt in
     ap (λ (n : ℕ). first_points n l₄) next
-    ∙ four_put l₀ l₁ l₂ l₃ l₄ (4 * i) _ _ _ _ (omega (arith, c.requires.fact_1))
+    ∙ four_put l₀ l₁ l₂ l₃ l₄ (4 * i) _ _ _ _ (omega (arith, c.requires.room))
     (c.put_point.ensures ∙ (λ z. put_at l₀ (4 * i) (record { x = l z; y = b z })))
     (c.put_point-2.ensures ∙ (λ z. put_at l₁ (4 * i + 1) (record { x = l z; y = h z })))
     (c.put_point-3.ensures ∙ (λ z. put_at l₂ (4 * i + 2) (record { x = r z; y = b z })))

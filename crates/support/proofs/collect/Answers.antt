@@ -5,6 +5,7 @@ use Prim.Native.Nat.{ℕ, ◌+◌, ◌*◌, ◌/◌, ◌≤◌}
 use native.Mathlib.Omega.{arith}
 use lib.IntN.{ℤ, pos}
 use lib.ListN.{length}
+use lib.Seq.{length-take-le}
 use mir.Syntax.{w64}
 use mir.Val.{SFits, to_z, of_z}
 use mir.Facts.{to_z-of_z}
@@ -53,6 +54,10 @@ put_in {d} l i {p} {Q} {R} room read on k e =
 still_spanned : {d : Disk} (p : Point) {Q R : List Point} {s : Span} → Spans d Q s → R ≡ insert p Q → Spans d R s
 still_spanned {d} p {Q} spans e z h k = subst (λ (L : List Point). Spanned d L z) (sym e) (spanned_more d Q p z (spans z h k))
 
+-- where there is room for a point more, the points with p put in have room
+one_more : (out : List ℤ) (m : ℕ) (p : Point) {size : ℕ} → size ≡ length (insert p (first_points m out)) → 2 * m + 2 ≤ length out → 2 * size ≤ length out
+one_more out m p e room = omega (arith, e, insert-length p (first_points m out), length-first_points m out (omega arith))
+
 pub next_needed-i-requires : goal.next_needed-i-requires
 next_needed-i-requires c = asked c.requires.0 c.requires.2 c.ranges.power 0 (omega arith)
 
@@ -72,6 +77,18 @@ loop-i-init c =
 pub insert_point-size-requires : goal.insert_point-size-requires
 insert_point-size-requires c = omega arith
 
+pub slice_bounds-span_with-end : goal.slice_bounds-span_with-end
+slice_bounds-span_with-end c = omega (arith, one_more c.loop-i.out c.loop-i.m c.point_at-p.result c.insert_point-size.ensures.size (omega arith))
+
+pub overflow_mul-size : goal.overflow_mul-size
+overflow_mul-size c =
+    record { fits = omega (arith, one_more c.loop-i.out c.loop-i.m c.point_at-p.result c.insert_point-size.ensures.size (omega arith)) }
+
+pub slice_bounds-span_with-end-then-m-size : goal.slice_bounds-span_with-end-then-m-size
+slice_bounds-span_with-end-then-m-size c =
+    sym (length-take-le (2 * c.insert_point-size.result) c.insert_point-size.new.list
+    (omega (arith, one_more c.loop-i.out c.loop-i.m c.point_at-p.result c.insert_point-size.ensures.size (omega arith))))
+
 pub span_with-span-requires : goal.span_with-span-requires
 span_with-span-requires c =
     let i = c.loop-i.invariant in
@@ -79,11 +96,9 @@ span_with-span-requires c =
     let Q = first_points c.loop-i.m c.loop-i.out in
     let e = c.insert_point-size.ensures.left in
     record {
-      n_in_bounds = (
-        omega (arith, c.insert_point-size.ensures.size, insert-length p Q, length-first_points c.loop-i.m c.loop-i.out (omega arith)),
-        small c.requires.0,
-      );
-      fact = (subst (In p) (sym e) (insert_new p Q), still_spanned p i.3 e);
+      small = small c.requires.0;
+      among = subst (In p) (sym e) (insert_new p Q);
+      spans = still_spanned p i.3 e;
     }
 
 pub next_needed-i-requires-in-loop-i : goal.next_needed-i-requires-in-loop-i

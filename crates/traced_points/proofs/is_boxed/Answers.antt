@@ -1,5 +1,5 @@
 -- `traced_points::is_boxed` meets its contract: the two tests are those of the narrower box.
-use mathlib.Core.Path.{◌≡◌, sym, ◌∙◌}
+use mathlib.Core.Path.{◌≡◌, refl, sym, ◌∙◌}
 use lib.IntN.{ℤ, ◌+ℤ◌, ◌-ℤ◌}
 use mir.Syntax.{w16}
 use mir.Val.{to_z, of_z}
@@ -34,9 +34,13 @@ second c =
 pub returns-then-has_room : goal.returns-then-has_room
 unfolding in_box
 returns-then-has_room c =
-    pass (sym (first (goal.at.returns-then-has_room c).After-has_room) ∙ c.if-has_room.true) (second c) ∙ middle_in c.args.s c.requires
+    second c
+    ∙ pass (sym (first (goal.at.returns-then-has_room c).After-has_room) ∙ c.if-has_room.true) refl
+    ∙ middle_in c.args.s c.requires
 
-pub returns : goal.returns
+pub returns-else-has_room : goal.returns-else-has_room
 unfolding in_box
-returns c =
-    stop _ (sym (first (goal.at.returns c).After-has_room) ∙ c.if-has_room.false) ∙ middle_in c.args.s c.requires
+returns-else-has_room c =
+    c.if-has_room.false
+    ∙ stop _ (sym (first (goal.at.returns-else-has_room c).After-has_room) ∙ c.if-has_room.false)
+    ∙ middle_in c.args.s c.requires

@@ -3,6 +3,6 @@ use mathlib.Core.Path.{◌∙◌}
 use Rattle.traced_points.proofs.Laid.{laid_given}
 use Rattle.traced_points.proofs.solve.Goals as goal
 
-pub smallest-run-requires : goal.smallest-run-requires
-smallest-run-requires c =
-    laid_given c.args.list.now c.lay_out.new.room c.requires.fact_1 (c.lay_out.auto.room ∙ c.requires.fact_2) c.lay_out.ensures
+pub smallest-requires : goal.smallest-requires
+smallest-requires c =
+    laid_given c.args.list.now c.lay_out.new.room c.requires.accepted (c.lay_out.auto.room ∙ c.requires.room_length) c.lay_out.ensures

@@ -67,7 +67,7 @@ loop-i-init t c = (search rules, ran_none c.args.fixed c.args.list.now c.boundar
 pub is_outside-requires : goal.is_outside-requires
 is_outside-requires t c =
     let inside = (goal.at.is_outside-requires t c).In-loop-i in
-    record { fact_1 = c.loop-i.invariant.1.disk_is.small; fact_2 = rw (c.point_at-p.ensures ∙ same_point t inside) (near_box _ (boxed t inside)) }
+    record { small = c.loop-i.invariant.1.disk_is.small; near = rw (c.point_at-p.ensures ∙ same_point t inside) (near_box _ (boxed t inside)) }
 
 pub mtf-again-requires : goal.mtf-again-requires
 mtf-again-requires t c =

@@ -4,12 +4,8 @@ use mathlib.Core.List.Memᴰ
 use Prim.Native.Nat.{◌*◌, ◌/◌}
 use native.Mathlib.Omega.{arith}
 use lib.ListN.{length}
-use mir.Syntax.{w64}
-use Rattle.integers.proofs.Bounds.{leaf_back}
-use Rattle.geometry.specs.EmBox.{em}
 use Rattle.geometry.specs.Points.{points}
 use Rattle.geometry.proofs.PointLists.{first_points_all, length-first_points}
-use Rattle.relative_disks.specs.Relative.{largest_coordinate, largest_offset}
 use Rattle.inner_level.proofs.RanLaws.{all_boxed}
 use Rattle.welzl.proofs.WholeRun.{Answered, kept_answer, Whole, ran-whole}
 use Rattle.welzl.proofs.smallest.Goals as goal
@@ -45,30 +41,12 @@ mtf-run-requires c =
       list_boxed = rw (first_points_all (length l / 2) l (halved s)) (all_boxed (points l) c.requires.boxed);
     }
 
-pub written-disk-requires : goal.written-disk-requires
-written-disk-requires c =
-    let s = (goal.at.written-disk-requires c).After-mtf-run in
-    let k = (whole s).keeps.small in
-    rw (
-      leaf_back w64 _ em.scale k.e_small tt,
-      leaf_back w64 _ largest_coordinate k.qx_small tt,
-      leaf_back w64 _ largest_coordinate k.qy_small tt,
-      leaf_back w64 _ largest_offset k.gx_small tt,
-      leaf_back w64 _ largest_offset k.gy_small tt,
-    )
-    (answered s).numbers
+pub written-requires : goal.written-requires
+written-requires c =
+    let a = answered (goal.at.written-requires c).After-mtf-run in
+    record { proper = a.proper; small = a.small }
 
 pub returns : goal.returns
 returns c =
     let s = (goal.at.returns c).After-mtf-run in
-    let k = (whole s).keeps.small in record {
-      disk = (rw (
-        leaf_back w64 _ em.scale k.e_small tt,
-        leaf_back w64 _ largest_coordinate k.qx_small tt,
-        leaf_back w64 _ largest_coordinate k.qy_small tt,
-        leaf_back w64 _ largest_offset k.gx_small tt,
-        leaf_back w64 _ largest_offset k.gy_small tt,
-      ) at c.written-disk.ensures) ∙ (answered s).disk;
-      tests = (whole s).tests_are;
-      order = (whole s).order_is;
-    }
+    record { disk = c.written.ensures ∙ (answered s).disk; tests = (whole s).tests_are; order = (whole s).order_is }

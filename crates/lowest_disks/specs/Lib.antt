@@ -1,2 +1,0 @@
--- of inner contracts
-pub mod AnswerNumbers
