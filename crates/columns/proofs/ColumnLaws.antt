@@ -1,6 +1,6 @@
 -- The columns of a list: laws of `Columns`, `Seen`, `column_point` and `side`.
 --
---   lesser_new, lesser_old, greater_new, greater_old : the two cases of each
+--   lesser_new, lesser_old, greater_new, greater_old : the two cases of int_min and int_max
 --   box_x, box_column  : a point of the em box lies in one of its columns
 --   columns_none, seen_none : the columns and the marks of no point
 --   columns_next, seen_next : and with one more point
@@ -19,6 +19,7 @@ use lib.IntN.{ℤ, pos, negsuc, nat_abs}
 use lib.ListN.{length, get_or, set, replicate, length-set, length-replicate, get_or-replicate}
 use lib.Seq.{get_or-set_same, get_or-set_other}
 use lib.Signed.{lt_z}
+use Rattle.std.specs.Int.{int_min, int_max}
 use Rattle.integers.specs.Order.{◌≼◌, ◌≺◌}
 use Rattle.integers.proofs.Tests.{test_true}
 use Rattle.integers.proofs.Bounds.{lt_true, lt_false}
@@ -27,57 +28,53 @@ use Rattle.geometry.specs.declared.Point.{Point}
 use Rattle.geometry.specs.EmBox.{em, Inside}
 use Rattle.point_lists.specs.Sets.{In}
 use Rattle.point_lists.proofs.Sets.{point_path, also, none_of}
-use Rattle.columns.specs.Columns.{lesser, greater, kept_at, at, Column, none, some, Columns, Seen, column_point, side, column_count, group_count}
+use Rattle.columns.specs.Columns.{kept_at, at, Column, none, some, Columns, Seen, column_point, side, column_count, group_count}
 
 -- ---- the lesser and the greater
 
-pub lesser_new : (a b : ℤ) → lt_z b a ≡ true → lesser a b ≡ b
-unfolding lesser
+pub lesser_new : (a b : ℤ) → lt_z b a ≡ true → int_min a b ≡ b
 lesser_new a b e = rw e
 
-pub lesser_old : (a b : ℤ) → lt_z b a ≡ false → lesser a b ≡ a
-unfolding lesser
+pub lesser_old : (a b : ℤ) → lt_z b a ≡ false → int_min a b ≡ a
 lesser_old a b e = rw e
 
-pub greater_new : (a b : ℤ) → lt_z a b ≡ true → greater a b ≡ b
-unfolding greater
+pub greater_new : (a b : ℤ) → lt_z b a ≡ false → int_max a b ≡ b
 greater_new a b e = rw e
 
-pub greater_old : (a b : ℤ) → lt_z a b ≡ false → greater a b ≡ a
-unfolding greater
+pub greater_old : (a b : ℤ) → lt_z b a ≡ true → int_max a b ≡ a
 greater_old a b e = rw e
 
 pub data Picked (a b r : ℤ) : Type 0 where
   old : r ≡ a → Picked a b r
   new : r ≡ b → Picked a b r
 
-pub lesser_picked : (a b : ℤ) → Picked a b (lesser a b)
+pub lesser_picked : (a b : ℤ) → Picked a b (int_min a b)
 lesser_picked a b = go (lt_z b a) refl
   where
-    go : (t : Bool) → lt_z b a ≡ t → Picked a b (lesser a b)
+    go : (t : Bool) → lt_z b a ≡ t → Picked a b (int_min a b)
     go true e = new (lesser_new a b e)
     go false e = old (lesser_old a b e)
 
-pub greater_picked : (a b : ℤ) → Picked a b (greater a b)
-greater_picked a b = go (lt_z a b) refl
+pub greater_picked : (a b : ℤ) → Picked a b (int_max a b)
+greater_picked a b = go (lt_z b a) refl
   where
-    go : (t : Bool) → lt_z a b ≡ t → Picked a b (greater a b)
-    go true e = new (greater_new a b e)
-    go false e = old (greater_old a b e)
+    go : (t : Bool) → lt_z b a ≡ t → Picked a b (int_max a b)
+    go true e = old (greater_old a b e)
+    go false e = new (greater_new a b e)
 
-pub lesser-least : (a b : ℤ) → (lesser a b ≼ a) × (lesser a b ≼ b)
+pub lesser-least : (a b : ℤ) → (int_min a b ≼ a) × (int_min a b ≼ b)
 lesser-least a b = go (lt_z b a) refl
   where
-    go : (t : Bool) → lt_z b a ≡ t → (lesser a b ≼ a) × (lesser a b ≼ b)
+    go : (t : Bool) → lt_z b a ≡ t → (int_min a b ≼ a) × (int_min a b ≼ b)
     go true e = rw (lesser_new a b e) (≤_of_< (lt_true b a e), ≤-refl b)
     go false e = rw (lesser_old a b e) (≤-refl a, lt_false b a e)
 
-pub greater_most : (a b : ℤ) → (a ≼ greater a b) × (b ≼ greater a b)
-greater_most a b = go (lt_z a b) refl
+pub greater_most : (a b : ℤ) → (a ≼ int_max a b) × (b ≼ int_max a b)
+greater_most a b = go (lt_z b a) refl
   where
-    go : (t : Bool) → lt_z a b ≡ t → (a ≼ greater a b) × (b ≼ greater a b)
-    go true e = rw (greater_new a b e) (≤_of_< (lt_true a b e), ≤-refl b)
-    go false e = rw (greater_old a b e) (≤-refl a, lt_false a b e)
+    go : (t : Bool) → lt_z b a ≡ t → (a ≼ int_max a b) × (b ≼ int_max a b)
+    go true e = rw (greater_old a b e) (≤-refl a, ≤_of_< (lt_true b a e))
+    go false e = rw (greater_new a b e) (lt_false b a e, ≤-refl b)
 
 -- ---- the em box
 
@@ -121,10 +118,10 @@ module _ {P : List Point} {low high : List ℤ} (c : Columns P low high) (p : Po
   P' = P ++ (p ∷ [])
 
   abbrev low' : List ℤ
-  low' = kept_at lesser low k p.y
+  low' = kept_at int_min low k p.y
 
   abbrev high' : List ℤ
-  high' = kept_at greater high k p.y
+  high' = kept_at int_max high k p.y
 
   low_fits : k < length low
   low_fits = omega (arith, c.low_size, box_column p b)
@@ -138,25 +135,25 @@ module _ {P : List Point} {low high : List ℤ} (c : Columns P low high) (p : Po
   abbrev hi : ℤ
   hi = get_or high k (pos 0)
 
-  low_there : get_or low' k (pos 0) ≡ lesser lo p.y
-  low_there = there low k low_fits (lesser lo p.y)
+  low_there : get_or low' k (pos 0) ≡ int_min lo p.y
+  low_there = there low k low_fits (int_min lo p.y)
 
-  high_there : get_or high' k (pos 0) ≡ greater hi p.y
-  high_there = there high k high_fits (greater hi p.y)
+  high_there : get_or high' k (pos 0) ≡ int_max hi p.y
+  high_there = there high k high_fits (int_max hi p.y)
 
   low_less : (j : ℕ) → get_or low' j (pos 0) ≼ get_or low j (pos 0)
   low_less j = go (ℕ_discrete j k)
     where
       go : Dec (j ≡ k) → get_or low' j (pos 0) ≼ get_or low j (pos 0)
       go (yes e) = subst (λ (i : ℕ). get_or low' i (pos 0) ≼ get_or low i (pos 0)) (sym e) (≤_trans (≤_of_eq low_there) (lesser-least lo p.y).0)
-      go (no n) = ≤_of_eq (elsewhere low k low_fits (lesser lo p.y) j n)
+      go (no n) = ≤_of_eq (elsewhere low k low_fits (int_min lo p.y) j n)
 
   high_more : (j : ℕ) → get_or high j (pos 0) ≼ get_or high' j (pos 0)
   high_more j = go (ℕ_discrete j k)
     where
       go : Dec (j ≡ k) → get_or high j (pos 0) ≼ get_or high' j (pos 0)
       go (yes e) = subst (λ (i : ℕ). get_or high i (pos 0) ≼ get_or high' i (pos 0)) (sym e) (≤_trans (greater_most hi p.y).0 (≤_of_eq (sym high_there)))
-      go (no n) = ≤_of_eq (sym (elsewhere high k high_fits (greater hi p.y) j n))
+      go (no n) = ≤_of_eq (sym (elsewhere high k high_fits (int_max hi p.y) j n))
 
   new_in : In p P'
   new_in = Memᴰ.append_right P (Memᴰ.head refl)
@@ -168,23 +165,23 @@ module _ {P : List Point} {low high : List ℤ} (c : Columns P low high) (p : Po
   picked a r i (old e) = subst (λ (z : ℤ). In (at k z) P') (sym e) (Memᴰ.append_left (p ∷ []) i)
   picked a r i (new e) = here r e
 
-  low_new : lo ≡ pos 32767 → lesser lo p.y ≡ p.y
+  low_new : lo ≡ pos 32767 → int_min lo p.y ≡ p.y
   low_new e = go (lt_z p.y lo) refl
     where
-      go : (t : Bool) → lt_z p.y lo ≡ t → lesser lo p.y ≡ p.y
+      go : (t : Bool) → lt_z p.y lo ≡ t → int_min lo p.y ≡ p.y
       go true h = lesser_new lo p.y h
       go false h = <-≤_clash (record { lt = tt }) (≤_trans (subst (λ (z : ℤ). z ≼ p.y) e (lt_false p.y lo h)) b.to_top)
 
-  high_new : hi ≡ negsuc 32767 → greater hi p.y ≡ p.y
-  high_new e = go (lt_z hi p.y) refl
+  high_new : hi ≡ negsuc 32767 → int_max hi p.y ≡ p.y
+  high_new e = go (lt_z p.y hi) refl
     where
-      go : (t : Bool) → lt_z hi p.y ≡ t → greater hi p.y ≡ p.y
-      go true h = greater_new hi p.y h
-      go false h = <-≤_clash (record { lt = tt }) (≤_trans b.from_foot (subst (λ (z : ℤ). p.y ≼ z) e (lt_false hi p.y h)))
+      go : (t : Bool) → lt_z p.y hi ≡ t → int_max hi p.y ≡ p.y
+      go true h = <-≤_clash (record { lt = tt }) (≤_trans b.from_foot (subst (λ (z : ℤ). p.y ≼ z) e (≤_of_< (lt_true p.y hi h))))
+      go false h = greater_new hi p.y h
 
-  column_there : Column P k lo hi → Column P' k (lesser lo p.y) (greater hi p.y)
-  column_there (none e f) = some (here (lesser lo p.y) (low_new e)) (here (greater hi p.y) (high_new f))
-  column_there (some i j) = some (picked lo (lesser lo p.y) i (lesser_picked lo p.y)) (picked hi (greater hi p.y) j (greater_picked hi p.y))
+  column_there : Column P k lo hi → Column P' k (int_min lo p.y) (int_max hi p.y)
+  column_there (none e f) = some (here (int_min lo p.y) (low_new e)) (here (int_max hi p.y) (high_new f))
+  column_there (some i j) = some (picked lo (int_min lo p.y) i (lesser_picked lo p.y)) (picked hi (int_max hi p.y) j (greater_picked hi p.y))
 
   column_more : (x : ℕ) (a z : ℤ) → Column P x a z → Column P' x a z
   column_more x a z (none e f) = none e f
@@ -196,13 +193,13 @@ module _ {P : List Point} {low high : List ℤ} (c : Columns P low high) (p : Po
       go : Dec (x ≡ k) → Column P' x (get_or low' x (pos 0)) (get_or high' x (pos 0))
       go (yes e) = subst (λ (i : ℕ). Column P' i (get_or low' i (pos 0)) (get_or high' i (pos 0))) (sym e)
           (rw (low_there, high_there) (column_there (c.column k (box_column p b))))
-      go (no n) = rw (elsewhere low k low_fits (lesser lo p.y) x n, elsewhere high k high_fits (greater hi p.y) x n)
+      go (no n) = rw (elsewhere low k low_fits (int_min lo p.y) x n, elsewhere high k high_fits (int_max hi p.y) x n)
           (column_more x (get_or low x (pos 0)) (get_or high x (pos 0)) (c.column x h))
 
   pub columns_next : Columns P' low' high'
   columns_next = record {
-    low_size = length-set low k (lesser lo p.y) ∙ c.low_size;
-    high_size = length-set high k (greater hi p.y) ∙ c.high_size;
+    low_size = length-set low k (int_min lo p.y) ∙ c.low_size;
+    high_size = length-set high k (int_max hi p.y) ∙ c.high_size;
     low_most = λ q i. covered_low q (Memᴰ.append_cases P i);
     high_least = λ q i. covered_high q (Memᴰ.append_cases P i);
     column = column_next;
@@ -220,31 +217,31 @@ module _ {P : List Point} {low high : List ℤ} (c : Columns P low high) (p : Po
 
 -- ---- the marks
 
-pub seen_none : Seen [] (replicate group_count 0)
-seen_none = record { groups = length-replicate {A = ℕ} group_count 0; marked = λ p i. absurd (Memᴰ.not-nil i) }
+pub seen_none : Seen [] (replicate group_count false)
+seen_none = record { groups = length-replicate group_count false; marked = λ p i. absurd (Memᴰ.not-nil i) }
 
-pub seen_next : {P : List Point} {seen : List ℕ} → Seen P seen → (p : Point) → Inside em p → Seen (P ++ (p ∷ [])) (set seen (nat_abs p.x / 16) 1)
+pub seen_next : {P : List Point} {seen : List Bool} → Seen P seen → (p : Point) → Inside em p → Seen (P ++ (p ∷ [])) (set seen (nat_abs p.x / 16) true)
 seen_next {P} {seen} m p b = record {
-  groups = length-set seen k 1 ∙ m.groups;
+  groups = length-set seen k true ∙ m.groups;
   marked = λ q i. go q (Memᴰ.append_cases P i);
 }
   where
     k : ℕ
     k = nat_abs p.x / 16
 
-    here : get_or (set seen k 1) k 0 ≡ 1
-    here = get_or-set_same seen k 1 0 (omega (arith, m.groups, box_column p b))
+    here : get_or (set seen k true) k false ≡ true
+    here = get_or-set_same seen k true false (omega (arith, m.groups, box_column p b))
 
-    kept : (j : ℕ) → get_or seen j 0 ≡ 1 → get_or (set seen k 1) j 0 ≡ 1
+    kept : (j : ℕ) → get_or seen j false ≡ true → get_or (set seen k true) j false ≡ true
     kept j e = at_place (ℕ_discrete j k)
       where
-        at_place : Dec (j ≡ k) → get_or (set seen k 1) j 0 ≡ 1
-        at_place (yes f) = ap (λ (i : ℕ). get_or (set seen k 1) i 0) f ∙ here
-        at_place (no n) = get_or-set_other seen k j 1 0 n ∙ e
+        at_place : Dec (j ≡ k) → get_or (set seen k true) j false ≡ true
+        at_place (yes f) = ap (λ (i : ℕ). get_or (set seen k true) i false) f ∙ here
+        at_place (no n) = get_or-set_other seen k j true false n ∙ e
 
-    go : (q : Point) → In q P ⊎ In q (p ∷ []) → get_or (set seen k 1) (nat_abs q.x / 16) 0 ≡ 1
+    go : (q : Point) → In q P ⊎ In q (p ∷ []) → get_or (set seen k true) (nat_abs q.x / 16) false ≡ true
     go q (inl i) = kept (nat_abs q.x / 16) (m.marked q i)
-    go q (inr i) = also (λ r. get_or (set seen k 1) (nat_abs r.x / 16) 0 ≡ 1) here (none_of (λ r. get_or (set seen k 1) (nat_abs r.x / 16) 0 ≡ 1)) q i
+    go q (inr i) = also (λ r. get_or (set seen k true) (nat_abs r.x / 16) false ≡ true) here (none_of (λ r. get_or (set seen k true) (nat_abs r.x / 16) false ≡ true)) q i
 
 -- ---- the point of a column
 

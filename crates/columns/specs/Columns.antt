@@ -1,11 +1,10 @@
 -- The columns of the em box, one for each x, and the lowest and highest point of a list in each.
 --
---   lesser, greater a b    == the lesser, the greater of two numbers, a where they are equal
 --   kept_at f l x y         == l with f of what stands at place x, and y, at place x
 --   at x y                 == the point (x, y)
 --   Column P x lo hi       == lo and hi are the least and greatest y that points of P have in the column x: none, or two points of P
 --   Columns P low high     == `low` and `high` are those numbers of all columns
---   Seen P seen            == of the groups of 16 columns, every one that a point of P lies in is marked with 1
+--   Seen P seen            == of the groups of 16 columns, every one that a point of P lies in is marked
 --   column_point x lo hi y  == the point (x, y), where lo and hi name points of a column
 --   side k low high ys     == these points of the first k columns, with the heights ys
 --   Written k m low high lows highs == of the first k columns, the m lowest points stand rising in front of `lows`, and the highest ones falling
@@ -31,20 +30,6 @@ column_count = 16 * group_count
 abbrev pub side_length : ℕ
 side_length = 2 * column_count + 2
 
-unfoldable pub lesser : ℤ → ℤ → ℤ
-lesser a b = pick (lt_z b a)
-  where
-    pick : Bool → ℤ
-    pick true = b
-    pick false = a
-
-unfoldable pub greater : ℤ → ℤ → ℤ
-greater a b = pick (lt_z a b)
-  where
-    pick : Bool → ℤ
-    pick true = b
-    pick false = a
-
 abbrev pub kept_at : (ℤ → ℤ → ℤ) → List ℤ → ℕ → ℤ → List ℤ
 kept_at f l x y = set l x (f (get_or l x (pos 0)) y)
 
@@ -62,9 +47,9 @@ pub record Columns (P : List Point) (low high : List ℤ) : Type 0 where
   pub high_least : (p : Point) → In p P → p.y ≼ get_or high (nat_abs p.x) (pos 0)
   pub column : (x : ℕ) → x < column_count → Column P x (get_or low x (pos 0)) (get_or high x (pos 0))
 
-pub record Seen (P : List Point) (seen : List ℕ) : Type 0 where
+pub record Seen (P : List Point) (seen : List Bool) : Type 0 where
   pub groups : length seen ≡ group_count
-  pub marked : (p : Point) → In p P → get_or seen (nat_abs p.x / 16) 0 ≡ 1
+  pub marked : (p : Point) → In p P → get_or seen (nat_abs p.x / 16) false ≡ true
 
 unfoldable pub column_point : ℤ → ℤ → ℤ → ℤ → List Point
 column_point x lo hi y = pick (lt_z hi lo)

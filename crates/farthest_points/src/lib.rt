@@ -1,7 +1,7 @@
 // The two points of a list that are farthest apart, found pair by pair.
 #![tactic(auto)]
 
-ghost use Rattle.std.specs.Prelude.{true, ◌≡◌, ◌+◌, ◌*◌, ◌≤◌, max, length, drop};
+ghost use Rattle.std.specs.Prelude.{true, ◌≡◌, ◌+◌, ◌*◌, ◌≤◌, max, length};
 ghost use Rattle.geometry.specs.EmBox.{em, Inside, all_in_em_box};
 ghost use Rattle.geometry.specs.Points.{points, point_at};
 ghost use Rattle.stretches.specs.Widest.{apart, ordered, ahead, better_of, best_from, widest_of};
@@ -20,35 +20,26 @@ fn squared_distance(p: Point, q: Point) -> u32
     (x * x + y * y) as u32
 }
 
-fn greater(m: u32, n: u32) -> u32
-    ensures { result ≡ max m n }
+// The greatest squared distance of p from the points of the list.
+fn reach(p: Point, list: &[i16]) -> u32
+    requires { Inside em p × (all_in_em_box (points list.now) ≡ true) }
+    ensures { result ≡ reach_from 0 p (points list.now) }
 {
-    if m < n {
-        return n;
-    }
-    m
-}
-
-// The greatest squared distance of point i of the list from those from it on.
-fn reach(list: &[i16], i: usize) -> u32
-    requires { (2 * i + 2 ≤ length list.now) × (all_in_em_box (points list.now) ≡ true) }
-    ensures { result ≡ reach_from 0 (point_at list.now i) (drop i (points list.now)) }
-{
-    let n = list.len() / 2;
-    let p = geometry::point_at(list, i);
     let mut most: u32 = 0;
-    for j in i..n {
-        most = greater(most, squared_distance(p, geometry::point_at(list, j)));
+    // By index: with this loop and that of `best_from` over `points` the widest stretch of 48 points took a fifth longer.
+    for j in 0..list.len() / 2 {
+        most = most.max(squared_distance(p, geometry::point_at(list, j)));
     }
     most
 }
 
 // The stretch between p and q, whose squared distance is w.
+#[tactic(auto, unfolding(stretches::specs::Widest::ordered, geometry::specs::Order::before))]
 fn stretch_between(p: Point, q: Point, w: u64) -> Stretch
     requires { w ≡ apart p q }
     ensures { result ≡ ordered p q }
 {
-    if geometry::is_before(q, p) {
+    if q < p {
         return Stretch { a: q, b: p, w };
     }
     Stretch { a: p, b: q, w }
@@ -58,13 +49,7 @@ fn stretch_between(p: Point, q: Point, w: u64) -> Stretch
 fn is_ahead(s: Stretch, t: Stretch) -> bool
     ensures { result ≡ ahead s t }
 {
-    if geometry::is_before(s.a, t.a) {
-        return true;
-    }
-    if point_lists::is_same(s.a, t.a) {
-        return geometry::is_before(s.b, t.b);
-    }
-    false
+    (s.a, s.b) < (t.a, t.b)
 }
 
 // The better of s and the stretch between p and q.
@@ -72,43 +57,36 @@ fn better_of(s: Stretch, p: Point, q: Point) -> Stretch
     requires { Inside em p × Inside em q }
     ensures { result ≡ better_of s (ordered p q) }
 {
-    let w = squared_distance(p, q) as u64;
+    let w = u64::from(squared_distance(p, q));
     if w < s.w {
         return s;
     }
     let t = stretch_between(p, q, w);
-    if s.w < w {
-        return t;
-    }
-    if is_ahead(t, s) {
-        return t;
-    }
-    s
+    if s.w < w || is_ahead(t, s) { t } else { s }
 }
 
-// The best of s and the stretches between point i of the list and each from it on.
-fn best_from(list: &[i16], i: usize, s: Stretch) -> Stretch
-    requires { (2 * i + 2 ≤ length list.now) × (all_in_em_box (points list.now) ≡ true) }
-    ensures { result ≡ best_from s (point_at list.now i) (drop i (points list.now)) }
+// The best of s and the stretches between p and each point of the list.
+fn best_from(s: Stretch, p: Point, list: &[i16]) -> Stretch
+    requires { Inside em p × (all_in_em_box (points list.now) ≡ true) }
+    ensures { result ≡ best_from s p (points list.now) }
 {
-    let n = list.len() / 2;
-    let p = geometry::point_at(list, i);
     let mut found = s;
-    for j in i..n {
+    // By index, as in `reach`.
+    for j in 0..list.len() / 2 {
         found = better_of(found, p, geometry::point_at(list, j));
     }
     found
 }
 
 // The same. Most points do not reach as far as s is wide, and how far they do is known sooner.
-fn best_if_far(list: &[i16], i: usize, s: Stretch) -> Stretch
-    requires { (2 * i + 2 ≤ length list.now) × (all_in_em_box (points list.now) ≡ true) }
-    ensures { result ≡ best_from s (point_at list.now i) (drop i (points list.now)) }
+fn best_if_far(s: Stretch, p: Point, list: &[i16]) -> Stretch
+    requires { Inside em p × (all_in_em_box (points list.now) ≡ true) }
+    ensures { result ≡ best_from s p (points list.now) }
 {
-    if (reach(list, i) as u64) < s.w {
+    if u64::from(reach(p, list)) < s.w {
         return s;
     }
-    best_from(list, i, s)
+    best_from(s, p, list)
 }
 
 // The widest stretch of the list.
@@ -116,11 +94,12 @@ pub fn widest(list: &[i16]) -> Stretch
     requires { (2 ≤ length list.now) × (all_in_em_box (points list.now) ≡ true) }
     ensures { result ≡ widest_of (points list.now) }
 {
-    let n = list.len() / 2;
-    let p = geometry::point_at(list, 0);
-    let mut found = stretch_between(p, p, 0);
-    for i in 0..n {
-        found = best_if_far(list, i, found);
+    let first = geometry::point_at(list, 0);
+    let mut found = stretch_between(first, first, 0);
+    // By index: each point is held against the rest of the list from it on.
+    for i in 0..list.len() / 2 {
+        let p = geometry::point_at(list, i);
+        found = best_if_far(found, p, &list[2 * i..]);
     }
     found
 }

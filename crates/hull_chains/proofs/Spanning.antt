@@ -1,26 +1,27 @@
 -- Points of a list of numbers, from one on and before another.
 --
---   span-step      : the points from k on are point k and those behind it; span-end: none
---   span-length    : how many they are; points-most: a list has two numbers for each of its points
---   span_same      : lists with the same points there
---   push_short     : a point is put in front of one point or none as it is
+--   span-step        : the points from k on are point k and those behind it; span_end: none
+--   points_most      : a list has two numbers for each of its points; points-length: it has half as many points, rounded down; points_none: none
+--   points_from_back : the points from point i on are p and those behind it, where p is point i
+--   points_tail      : the points of the numbers from 2m on; points-span: and before 2e
+--   span_same        : lists with the same points there
+--   push_short       : a point is put in front of one point or none as it is
 --   put_there, put_other : the points of a list with p written as point i
---   put-span       : with p written as point k, the points from it on are p and those behind it
+--   put-span, put-points : with p written as point i, the points from it on are p and those behind it
 --   span_last, put_behind_lem : the points before one more, and with p written as that one
---   drop_most      : the points from a on of the first e, where e may be less than a
-use mathlib.Core.Path.{◌≡◌, sym, ap, ap₂, ◌∙◌}
+use mathlib.Core.Path.{◌≡◌, refl, sym, ap, ap₂, ◌∙◌}
 use mathlib.Core.Logic.{◌≢◌}
 use mathlib.Core.List.{List, [], ◌∷◌, ◌++◌}
-use Prim.Native.Nat.{ℕ, zero, suc, ◌+◌, ◌*◌, ◌-◌, ◌≤◌, ◌<◌, max}
+use Prim.Native.Nat.{ℕ, zero, suc, ◌+◌, ◌*◌, ◌-◌, ◌/◌, ◌≤◌, ◌<◌}
 use native.Mathlib.Omega.{arith}
-use native.Mathlib.Decide.{dec_le}
 use lib.IntN.{ℤ, pos}
-use lib.ListN.{length, get_or, set, drop, length-set, length-drop}
-use lib.Seq.{drop-append-le, get_or-set_same, get_or-set_other}
+use lib.ListN.{length, get_or, set, take, drop, length-set}
+use Rattle.std.proofs.lemmas.Slice.{between_to_end, between_is}
+use lib.Seq.{drop-set-lt, drop-append-le, get_or-set_same, get_or-set_other}
 use Rattle.geometry.specs.declared.Point.{Point}
 use Rattle.geometry.specs.Points.{points, point_at, first_points}
-use Rattle.geometry.proofs.PointLists.{first_points_next, length-first_points}
-use Rattle.geometry.proofs.PointRows.{first_points-from, first_points_end}
+use Rattle.geometry.proofs.PointLists.{first_points_next, first_points-whole, length-first_points}
+use Rattle.geometry.proofs.PointRows.{drop-points, points-from, first_points-from, first_points_end}
 use Rattle.hull.specs.Chains.{push}
 use Rattle.hull.proofs.Pushed.{push_none, push-one}
 use Rattle.point_lists.specs.Put.{put_at}
@@ -32,9 +33,6 @@ span-step k n l h f = first_points-from n k l f h
 
 pub span_end : (k n : ℕ) (l : List ℤ) → n ≤ k → 2 * n ≤ length l → span k n l ≡ []
 span_end k n l h f = first_points_end n k l f h
-
-pub span-length : (k n : ℕ) (l : List ℤ) → 2 * n ≤ length l → length (span k n l) ≡ n - k
-span-length k n l f = length-drop k (first_points n l) ∙ ap (λ (m : ℕ). m - k) (length-first_points n l f)
 
 pub span_same : (d k n : ℕ) (l m : List ℤ) → n ≡ k + d → 2 * n ≤ length l → 2 * n ≤ length m
     → ((j : ℕ) → k ≤ j → j < n → point_at l j ≡ point_at m j)
@@ -51,15 +49,6 @@ unfolding points
 points_most [] = omega arith
 points_most (x ∷ []) = omega arith
 points_most (x ∷ y ∷ l) = omega (arith, points_most l)
-
-pub drop_most : (a e i : ℕ) (l : List ℤ) → a ≤ i → e ≤ i → i ≤ max a e → 2 * a ≤ length l → 2 * e ≤ length l
-    → drop a (first_points i l) ≡ drop a (first_points e l)
-drop_most a e i l h k m fa fe = go (dec_le a e)
-  where
-    go : Dec (a ≤ e) → drop a (first_points i l) ≡ drop a (first_points e l)
-    go (yes d) = let same : i ≡ e = omega arith in ap (λ (n : ℕ). drop a (first_points n l)) same
-    go (no d) = let same : i ≡ a = omega arith in
-        ap (λ (n : ℕ). drop a (first_points n l)) same ∙ first_points_end a a l fa (omega arith) ∙ sym (first_points_end e a l fe (omega arith))
 
 pub push_short : (p : Point) (L : List Point) → length L ≤ 1 → push p L ≡ p ∷ L
 push_short p [] h = push_none p
@@ -104,3 +93,33 @@ span_last j n l h f =
     ap (λ (k : ℕ). span j k l) (sym back)
     ∙ ap (drop j) (first_points_next (n - 1) l (omega arith))
     ∙ drop-append-le j (first_points (n - 1) l) (point_at l (n - 1) ∷ []) (omega (arith, size))
+
+pub points-length : (l : List ℤ) → length (points l) ≡ length l / 2
+points-length l =
+    let n = length l / 2 in
+    ap length (sym (first_points-whole n l (omega arith) (omega arith))) ∙ length-first_points n l (omega arith)
+
+pub points_from_back : (i : ℕ) (l : List ℤ) (p : Point) → 2 * i + 2 ≤ length l → p ≡ point_at l i → drop i (points l) ≡ p ∷ drop (i + 1) (points l)
+points_from_back i l p h e = points-from i l h ∙ ap {B = List Point} (λ q. q ∷ drop (i + 1) (points l)) (sym e)
+
+pub points_none : (l : List ℤ) → length l ≤ 1 → points l ≡ []
+unfolding points
+points_none [] h = refl
+points_none (x ∷ []) h = refl
+points_none (x ∷ y ∷ l) h = absurd (omega arith)
+
+pub put-points : (i : ℕ) (p : Point) (l : List ℤ) → 2 * i + 2 ≤ length l → drop i (points (put_at l i p)) ≡ p ∷ drop (i + 1) (points l)
+put-points i p l h =
+    let behind : drop (2 * (i + 1)) (put_at l i p) ≡ drop (2 * (i + 1)) l =
+    drop-set-lt (2 * (i + 1)) (set l (2 * i) p.x) (2 * i + 1) p.y (omega arith) ∙ drop-set-lt (2 * (i + 1)) l (2 * i) p.x (omega arith) in
+    points-from i (put_at l i p) (rw (length-put l i p) h)
+    ∙ ap₂ (λ (q : Point) (Q : List Point). q ∷ Q) (put_there l i p h)
+    (drop-points (i + 1) (put_at l i p) ∙ ap points behind ∙ sym (drop-points (i + 1) l))
+
+-- the points of the numbers from 2m on
+pub points_tail : (m : ℕ) (l : List ℤ) → points (take (length l - 2 * m) (drop (2 * m) l)) ≡ drop m (points l)
+points_tail m l = ap points (between_to_end l (2 * m) (length l) (omega arith)) ∙ sym (drop-points m l)
+
+-- the points of the numbers from 2a on and before 2e
+pub points-span : (a e : ℕ) (l : List ℤ) → points (take (2 * e - 2 * a) (drop (2 * a) l)) ≡ span a e l
+points-span a e l = ap points (between_is l (2 * a) (2 * e)) ∙ sym (drop-points a (take (2 * e) l))

@@ -1,13 +1,12 @@
 // Chains of points, each next turning strictly left, made in place in a list of numbers.
 #![tactic(auto)]
 
-ghost use Rattle.std.specs.Prelude.{◌≡◌, ◌∷◌, ℕ, ◌+◌, ◌*◌, ◌≤◌, ◌<◌, pos, length};
+ghost use Rattle.std.specs.Prelude.{◌≡◌, ◌∷◌, ℕ, ◌+◌, ◌*◌, ◌%◌, ◌≤◌, ◌<◌, pos, length, drop};
 ghost use Rattle.std.specs.Int.Signed.{lt_z};
-ghost use Rattle.geometry.specs.Points.{point_at};
+ghost use Rattle.geometry.specs.Points.{points, point_at};
 ghost use Rattle.hull.specs.Hull.{cross};
 ghost use Rattle.hull.specs.Chains as Chains;
 ghost use Rattle.hull.specs.Skimmed.{is_needed, skim_chain};
-ghost use Rattle.hull_chains.specs.Spans.{span};
 
 use geometry::{Point, minus};
 
@@ -18,64 +17,61 @@ fn turns_left(a: Point, b: Point, c: Point) -> bool
     0 < minus(b.x, a.x) * minus(c.y, a.y) - minus(b.y, a.y) * minus(c.x, a.x)
 }
 
-// Where a chain with p in front goes on: the points m to n of the list are a chain, and those of them that make no strict left turn
-// behind p are passed by.
-fn kept_from(list: &[i16], m: usize, n: usize, p: Point) -> usize
-    requires { (2 * n ≤ length list.now) × (m ≤ n) × (n ≤ 4096) }
-    ensures { (m ≤ result) × (result ≤ n) × (Chains.push p (span m n list.now) ≡ p ∷ span result n list.now) }
+// Where the chain goes on with p in front: its points that make no strict left turn behind p are passed by.
+fn kept_from(chain: &[i16], p: Point) -> usize
+    ensures { (2 * result ≤ length chain.now) × (Chains.push p (points chain.now) ≡ p ∷ drop result (points chain.now)) }
 {
-    let mut k = m;
-    while k + 2 <= n {
-        let b = geometry::point_at(list, k);
-        let c = geometry::point_at(list, k + 1);
+    let n = chain.len() / 2;
+    // By index, which is the answer; each step looks at two neighbours.
+    for k in 1..n {
+        let b = geometry::point_at(chain, k - 1);
+        let c = geometry::point_at(chain, k);
         if turns_left(p, b, c) {
-            return k;
+            return k - 1;
         }
-        k += 1;
     }
-    k
+    n.saturating_sub(1)
 }
 
-// Puts p in front of the chain that the points m to n of the list are, and returns from where on they are the chain with p. The points
-// before m − 1 stay.
-fn push(list: &mut [i16], m: usize, n: usize, p: Point) -> usize
-    requires { (2 * n ≤ length list.old) × (1 ≤ m) × (m ≤ n) × (n ≤ 4096) }
-    ensures room { (m ≤ result + 1) × (result + 1 ≤ n) }
-    ensures left { span result n list.new ≡ Chains.push p (span m n list.old) }
+// Puts p in front of the chain that the points from m on are, and returns from where on they are the chain with p. The points before m − 1 stay.
+fn push(list: &mut [i16], m: usize, p: Point) -> usize
+    requires { (1 ≤ m) × (2 * m ≤ length list.old) }
+    ensures room { (m ≤ result + 1) × (2 * (result + 1) ≤ length list.old) }
+    ensures left { drop result (points list.new) ≡ Chains.push p (drop m (points list.old)) }
     ensures before { (j : ℕ) → j + 1 < m → point_at list.new j ≡ point_at list.old j }
 {
-    let k = kept_from(list, m, n, p) - 1;
+    let k = m + kept_from(&list[2 * m..], p) - 1;
     point_lists::put_point(list, k, p);
     k
 }
 
-// Whether p has to be pushed onto the chain that the points m to n of the list are: not where it lies on the way from a to the chain's first point, or on
-// the left of it. Most points do not, and this test of one is sooner done than the push.
-fn is_needed(list: &[i16], m: usize, n: usize, a: Point, p: Point) -> bool
-    requires { (2 * n ≤ length list.now) × (m ≤ n) × (n ≤ 4096) }
-    ensures { result ≡ is_needed a p (span m n list.now) }
+// Whether p has to be pushed onto the chain: not where it lies on the way from a to the chain's first point, or on the left of it. Most points do not,
+// and this test of one is sooner done than the push.
+fn is_needed(chain: &[i16], a: Point, p: Point) -> bool
+    ensures { result ≡ is_needed a p (points chain.now) }
 {
-    if m < n {
-        return turns_left(a, p, geometry::point_at(list, m));
+    if chain.len() < 2 {
+        return true;
     }
-    true
+    turns_left(a, p, geometry::point_at(chain, 0))
 }
 
-// Makes the points s to n of the list their chain, which ends where they end; returns where it starts.
-pub fn chain(list: &mut [i16], s: usize, n: usize) -> usize
-    requires { (2 * n ≤ length list.old) × (s < n) × (n ≤ 4096) }
-    ensures room { result + 1 ≤ n }
-    ensures left { span result n list.new ≡ skim_chain (span s n list.old) }
+// Makes the points of the list their chain, which ends where they end, and returns it.
+pub fn chain(list: &mut [i16]) -> &[i16]
+    requires { 2 ≤ length list.old }
+    ensures points { points result.now ≡ skim_chain (points list.old) }
+    ensures parity { length result.now % 2 ≡ length list.old % 2 }
 {
-    let a = geometry::point_at(list, s);
+    let n = list.len() / 2;
+    let a = geometry::point_at(list, 0);
     let mut m = n;
-    let mut i = n;
-    while s + 1 < i {
-        i -= 1;
+    // By index from the end: push writes the list that the loop goes over.
+    for i in (1..n).rev() {
         let p = geometry::point_at(list, i);
-        if is_needed(list, m, n, a, p) {
-            m = push(list, m, n, p);
+        if is_needed(&list[2 * m..], a, p) {
+            m = push(list, m, p);
         }
     }
-    push(list, m, n, a)
+    m = push(list, m, a);
+    &list[2 * m..]
 }

@@ -32,17 +32,18 @@ fn lay(lows: &mut [i16], highs: &mut [i16], m: usize, list: &mut [i16]) -> usize
     ensures size { result ≡ length (enclosed_by m lows.old highs.old) }
     ensures left { list.new ≡ laid (enclosed_by m lows.old highs.old) (length list.old) }
 {
+    let first = columns::COLUMNS - m;
     let a = geometry::point_at(lows, 0);
-    let z = geometry::point_at(highs, columns::COLUMNS - m);
+    let z = geometry::point_at(highs, first);
     let n = close(lows, m, z);
     let v = close(highs, columns::COLUMNS, a);
-    let l = hull_chains::chain(lows, 0, n);
-    let u = hull_chains::chain(highs, columns::COLUMNS - m, v);
-    joined_chains::join(lows, l, n, highs, u, v, list)
+    let lower = hull_chains::chain(&mut lows[..2 * n]);
+    let upper = hull_chains::chain(&mut highs[2 * first..2 * v]);
+    joined_chains::join(lower, upper, list)
 }
 
 // Reduces the list to the corners of its convex hull, given its columns.
-fn reduce_columns(low: &[i16], high: &[i16], seen: &[u8], list: &mut [i16]) -> usize
+fn reduce_columns(low: &[i16], high: &[i16], seen: &[bool], list: &mut [i16]) -> usize
     requires { Boxed list.old × Columns (points list.old) low.now high.now × Seen (points list.old) seen.now }
     ensures size { result ≡ length (Chains.hull_of (points list.old)) }
     ensures left { list.new ≡ laid (Chains.hull_of (points list.old)) (length list.old) }
@@ -61,7 +62,7 @@ pub fn reduce(list: &mut [i16]) -> usize
 {
     let mut low = [32767i16; columns::COLUMNS];
     let mut high = [-32768i16; columns::COLUMNS];
-    let mut seen = [0u8; columns::GROUPS];
+    let mut seen = [false; columns::GROUPS];
     columns::columns(list, &mut low, &mut high, &mut seen);
     reduce_columns(&low, &high, &seen, list)
 }

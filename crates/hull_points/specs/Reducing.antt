@@ -1,23 +1,16 @@
 -- The answer of the call that reduces a list to the corners of its convex hull, and the list as it leaves it (02, item 8: outlines stripped to what
 -- sticks out).
 --
---   outcome r     == what the call's answer r says: how many points were kept, or the papers' number of the refusal
 --   reduce_of l    == the answer due for the list l: the engine's refusals; else how many corners the hull has
 --   list_after l   == the list as the call leaves it: the corners in front and zeros behind; unchanged where the call refuses
 --
 -- That `hull_of P` (hull/specs/Chains.antt) are the corners of the convex hull of P, by their property, is claimed in requests/specs/HullPoints.antt.
 use Rattle.std.specs.Prelude.{List, ℕ, ℤ, length}
-use Rattle.answers.specs.Outcome.{Outcome, given, refused, number_of, and_then}
+use Rattle.answers.specs.Outcome.{Outcome, given, refused, and_then}
 use Rattle.geometry.specs.Points.{points}
 use Rattle.engine.specs.Engine.{Enclosure, enclose_of}
 use Rattle.hull.specs.Chains.{hull_of}
 use Rattle.joined_chains.specs.Laid.{laid}
-use Rattle.hull_points.specs.declared.Reduced.{Reduced}
-use Rattle.hull_points.specs.declared.Reduced.TheVariants.{Points, Refused}
-
-abbrev pub outcome : Reduced → Outcome ℕ
-outcome (Points n) = given n
-outcome (Refused r) = refused (number_of r)
 
 -- "Refusals are the engine's."; "the number kept is returned"
 abbrev pub reduce_of : List ℤ → Outcome ℕ

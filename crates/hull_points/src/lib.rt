@@ -2,29 +2,17 @@
 #![tactic(auto)]
 
 ghost use Rattle.std.specs.Prelude.{◌≡◌};
-ghost use Rattle.hull_points.specs.Reducing.{outcome, reduce_of, list_after};
+ghost use Rattle.answers.specs.Outcome.{outcome};
+ghost use Rattle.hull_points.specs.Reducing.{reduce_of, list_after};
 
 use answers::Refusal;
-use engine::Checked;
 
-#[derive(Drop)]
-pub enum Reduced {
-    // How many points were kept.
-    Points(usize),
-    Refused(Refusal),
-}
-
-// Leaves the corners of the list's convex hull in front, counterclockwise from the least by x then y, and zeros behind; a refused list is
-// unchanged.
-pub fn reduce_to_hull(list: &mut [i16]) -> Reduced
+// Leaves the corners of the list's convex hull in front, counterclockwise from the least by x then y, and zeros behind, and returns how many they are;
+// a refused list is unchanged.
+pub fn reduce_to_hull(list: &mut [i16]) -> Result<usize, Refusal>
     ensures answer { outcome result ≡ reduce_of list.old }
     ensures list { list.new ≡ list_after list.old }
 {
-    match engine::check(list) {
-        Checked::Refused(r) => Reduced::Refused(r),
-        Checked::Passed => {
-            let n = hull_lists::reduce(list);
-            Reduced::Points(n)
-        }
-    }
+    engine::check(list)?;
+    Ok(hull_lists::reduce(list))
 }

@@ -1,65 +1,62 @@
 -- Two chains, and the list with their points in front.
 --
---   inner-span   : the points u to v without the first and the last
---   laid_from    : a list with the points H in front and zeros behind them
+--   points_even   : a list of even length has two numbers for each of its points
+--   inner_numbers : the points of the numbers without the first two and the last two
+--   laid_numbers  : a list with the numbers of two lists in front and zeros behind them
 use mathlib.Core.Path.{◌≡◌, refl, sym, ap, ◌∙◌}
-use mathlib.Core.List.{List, [], ◌∷◌, ◌++◌}
-use Prim.Native.Nat.{ℕ, ◌+◌, ◌*◌, ◌-◌, ◌≤◌}
-use native.Mathlib.Decide.{dec_le}
+use mathlib.Core.List.{List, [], ◌∷◌, ◌++◌, append_assoc}
+use Prim.Native.Nat.{ℕ, suc, ◌+◌, ◌*◌, ◌-◌, ◌%◌, ◌≤◌}
 use native.Mathlib.Omega.{arith}
 use lib.IntN.{ℤ, pos}
-use lib.ListN.{length, take, drop, replicate}
-use lib.Seq.{drop-append-le, take_at}
+use lib.ListN.{length, take, drop, replicate, length-append}
 use Rattle.geometry.specs.declared.Point.{Point}
-use Rattle.geometry.specs.Points.{flat, point_at, first_points}
-use Rattle.geometry.proofs.PointLists.{first_points_next, length-first_points, flat-first_points, length-flat}
+use Rattle.geometry.specs.Points.{points, flat}
+use Rattle.geometry.proofs.PointLists.{flat_append, length-flat}
 use Rattle.hull.specs.Chains.{but_last, inner}
-use Rattle.hull_chains.specs.Spans.{span}
 use Rattle.joined_chains.specs.Laid.{laid}
-use Rattle.hull_chains.proofs.Spanning.{span-step, span_end}
 
-but_last_behind : (l : List Point) (x : Point) → but_last (l ++ (x ∷ [])) ≡ l
-unfolding but_last
-but_last_behind [] x = refl
-but_last_behind (p ∷ []) x = refl
-but_last_behind (p ∷ q ∷ l) x = ap {B = List Point} (λ k. p ∷ k) (but_last_behind (q ∷ l) x)
+pub flat_points : (l : List ℤ) → length l % 2 ≡ 0 → flat (points l) ≡ l
+unfolding points flat
+flat_points [] h = refl
+flat_points (x ∷ []) h = absurd (omega (arith, h))
+flat_points (x ∷ y ∷ l) h = ap {B = List ℤ} (λ r. x ∷ y ∷ r) (flat_points l (omega (arith, h)))
 
-inner-step : (p : Point) (l : List Point) → inner (p ∷ l) ≡ but_last l
-unfolding inner
-inner-step p l = refl
+pub points_even : (l : List ℤ) → length l % 2 ≡ 0 → 2 * length (points l) ≡ length l
+points_even l h = sym (length-flat (points l)) ∙ ap length (flat_points l h)
 
-no_more : but_last [] ≡ []
-unfolding but_last
-no_more = refl
+but_last_numbers : (l : List ℤ) → length l % 2 ≡ 0 → points (take (length l - 2) l) ≡ but_last (points l)
+unfolding points but_last
+but_last_numbers [] h = refl
+but_last_numbers (x ∷ []) h = refl
+but_last_numbers (x ∷ y ∷ []) h = refl
+but_last_numbers (x ∷ y ∷ z ∷ []) h = absurd (omega (arith, h))
+but_last_numbers (x ∷ y ∷ z ∷ w ∷ l) h =
+    let less : suc (suc (suc (suc (length l)))) - 2 ≡ suc (suc (suc (suc (length l)) - 2)) = omega arith in
+    rw less (ap {B = List Point} (λ Q. record { x = x; y = y } ∷ Q) (but_last_numbers (z ∷ w ∷ l) (omega (arith, h))))
 
-pub inner-span : (u v : ℕ) (l : List ℤ) → 2 * v ≤ length l → u + 1 ≤ v → inner (span u v l) ≡ span (u + 1) (v - 1) l
-inner-span u v l f h = ap inner (span-step u v l (omega arith) f) ∙ inner-step (point_at l u) (span (u + 1) v l) ∙ go (dec_le (u + 1) (v - 1))
-  where
-    back : v - 1 + 1 ≡ v
-    back = omega arith
+pub inner_numbers : (l : List ℤ) → length l % 2 ≡ 0 → points (take (length l - 2 - 2) (drop 2 l)) ≡ inner (points l)
+unfolding points inner
+inner_numbers [] h = refl
+inner_numbers (x ∷ []) h = refl
+inner_numbers (x ∷ y ∷ l) h =
+    let less : suc (suc (length l)) - 2 - 2 ≡ length l - 2 = omega arith in rw less (but_last_numbers l (omega (arith, h)))
 
-    size : length (first_points (v - 1) l) ≡ v - 1
-    size = length-first_points (v - 1) l (omega arith)
+pub inner_short : (l : List ℤ) → length l ≤ 3 → points [] ≡ inner (points l)
+unfolding points inner but_last
+inner_short [] h = refl
+inner_short (x ∷ []) h = refl
+inner_short (x ∷ y ∷ []) h = refl
+inner_short (x ∷ y ∷ z ∷ []) h = refl
+inner_short (x ∷ y ∷ z ∷ w ∷ l) h = absurd (omega (arith, h))
 
-    go : Dec (u + 1 ≤ v - 1) → but_last (span (u + 1) v l) ≡ span (u + 1) (v - 1) l
-    go (yes k) =
-        ap but_last
-        (ap (λ (n : ℕ). span (u + 1) n l) (sym back)
-        ∙ ap (drop (u + 1)) (first_points_next (v - 1) l (omega arith))
-        ∙ drop-append-le (u + 1) (first_points (v - 1) l) (point_at l (v - 1) ∷ []) (omega (arith, size)))
-        ∙ but_last_behind (span (u + 1) (v - 1) l) (point_at l (v - 1))
-    go (no k) = ap but_last (span_end (u + 1) v l (omega arith) f) ∙ no_more ∙ sym (span_end (u + 1) (v - 1) l (omega arith) (omega arith))
-
--- the numbers of the first m points
-numbers : (m : ℕ) (l : List ℤ) → 2 * m ≤ length l → take (2 * m) l ≡ flat (first_points m l)
-numbers m l h =
-    let size : length (flat (first_points m l)) ≡ 2 * m = length-flat (first_points m l) ∙ ap (λ (k : ℕ). 2 * k) (length-first_points m l h) in
-    ap (take (2 * m)) (sym (flat-first_points m l h)) ∙ take_at (flat (first_points m l)) (drop (2 * m) l) (2 * m) size
-
-pub laid_from : (m n : ℕ) (H : List Point) (l : List ℤ) → first_points m l ≡ H → m ≡ length H → 2 * m ≤ length l → length l ≡ n
-    → take (2 * m) l ++ replicate (length l - 2 * m) (pos 0) ≡ laid H n
+pub laid_numbers : (a b : List ℤ) (H : List Point) (n : ℕ) → length a % 2 ≡ 0 → length b % 2 ≡ 0 → points a ++ points b ≡ H
+    → a ++ (b ++ replicate (n - (length a + length b)) (pos 0)) ≡ laid H n
 unfolding laid
-laid_from m n H l e k h size =
-    ap (λ (r : List ℤ). r ++ replicate (length l - 2 * m) (pos 0)) (numbers m l h ∙ ap flat e)
-    ∙ ap (λ (j : ℕ). flat H ++ replicate (j - 2 * m) (pos 0)) size
-    ∙ ap (λ (j : ℕ). flat H ++ replicate (n - 2 * j) (pos 0)) k
+laid_numbers a b H n ha hb e =
+    let together : a ++ b ≡ flat (points a ++ points b) =
+    sym (flat_append (points a) (points b) ∙ ap (λ (r : List ℤ). r ++ flat (points b)) (flat_points a ha) ∙ ap (λ (r : List ℤ). a ++ r) (flat_points b hb)) in
+    let size : length a + length b ≡ 2 * length H =
+    sym (length-append a b) ∙ ap length together ∙ ap (λ (Q : List Point). length (flat Q)) e ∙ length-flat H in
+    sym (append_assoc a b (replicate (n - (length a + length b)) (pos 0)))
+    ∙ ap (λ (r : List ℤ). r ++ replicate (n - (length a + length b)) (pos 0)) (together ∙ ap flat e)
+    ∙ ap (λ (k : ℕ). flat H ++ replicate (n - k) (pos 0)) size

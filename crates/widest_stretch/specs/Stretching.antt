@@ -1,22 +1,15 @@
 -- The answer of the call for the widest stretch of a letter (02, item 11).
 --
---   outcome r     == what the call's answer r says: a stretch, or the papers' number of the refusal
 --   stretch_of l   == the answer due for the list l: the engine's refusals; else the widest stretch of its points
 --
 -- That `widest_of P` (stretches/specs/Widest.antt) are the two points of P that are farthest apart, by their property, and Jung's bound are claimed in
 -- stretch_claims/specs/WidestStretch.antt.
 use Rattle.std.specs.Prelude.{List, ℤ}
-use Rattle.answers.specs.Outcome.{Outcome, given, refused, number_of, and_then}
+use Rattle.answers.specs.Outcome.{Outcome, given, and_then}
 use Rattle.geometry.specs.Points.{points}
 use Rattle.engine.specs.Engine.{enclose_of}
 use Rattle.stretches.specs.declared.Stretch.{Stretch}
 use Rattle.stretches.specs.Widest.{widest_of}
-use Rattle.widest_stretch.specs.declared.Stretched.{Stretched}
-use Rattle.widest_stretch.specs.declared.Stretched.TheVariants.{Found, Refused}
-
-abbrev pub outcome : Stretched → Outcome Stretch
-outcome (Found s) = given s
-outcome (Refused r) = refused (number_of r)
 
 -- "Refusals are the engine's"
 abbrev pub stretch_of : List ℤ → Outcome Stretch

@@ -49,9 +49,9 @@ returns-then-hi-lo c =
       moved (lows_are here) (highs_are here) refl (skipped t.1 t.0 t.4 (sym (ap₂ lt_z (hi_is here) (lo_is here)) ∙ c.if-hi-lo.true)),
     )
 
-pub returns : goal.returns
-returns c =
-    let here = (goal.at.returns c).After-highs-1 in
+pub returns-else-hi-lo : goal.returns-else-hi-lo
+returns-else-hi-lo c =
+    let here = (goal.at.returns-else-hi-lo c).After-highs-1 in
     let t = c.requires in (
       omega (arith, t.1),
       moved (lows_are here) (highs_are here) refl (one_more t.1 t.0 t.4 (sym (ap₂ lt_z (hi_is here) (lo_is here)) ∙ c.if-hi-lo.false)),

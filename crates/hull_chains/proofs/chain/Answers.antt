@@ -1,40 +1,40 @@
 use mathlib.Core.Path.{◌≡◌, refl, sym, ap, ◌∙◌}
 use mathlib.Core.List.{List, ◌∷◌}
-use Prim.Native.Nat.{ℕ, ◌+◌, ◌-◌}
+use Prim.Native.Nat.{ℕ, ◌+◌, ◌-◌, ◌*◌, ◌/◌}
 use native.Mathlib.Omega.{arith}
+use lib.ListN.{drop, length, length-drop, length-take}
 use Rattle.geometry.specs.declared.Point.{Point}
-use Rattle.geometry.specs.Points.{point_at}
+use Rattle.geometry.specs.Points.{points}
+use Rattle.geometry.proofs.PointRows.{points_end}
 use Rattle.hull.specs.Chains as Chains
 use Rattle.hull.specs.Skimmed.{is_needed, skimmed, skim_chain}
 use Rattle.hull.proofs.Skimmed.{skim_none, skim_keep, skim_drop}
-use Rattle.hull_chains.specs.Spans.{span}
-use Rattle.hull_chains.proofs.Spanning.{span-step, span_end}
+use Rattle.hull_chains.proofs.Spanning.{points_from_back, points_tail}
 use Rattle.hull_chains.proofs.chain.Goals as goal
 use Rattle.hull_chains.proofs.chain.Goals.{After-is_needed}
 
 -- the point that was read, and the outcome of its test
-this : (c : After-is_needed) → span (c.loop-i.i - 1) c.args.n c.args.list.now ≡ c.point_at-p.result ∷ span c.loop-i.i c.args.n c.args.list.now
+this : (c : After-is_needed) → drop (c.loop-i.i - 1) (points c.args.list.now) ≡ c.point_at-p.result ∷ drop c.loop-i.i (points c.args.list.now)
 this c =
     let i = c.loop-i.i in
-    let n = c.args.n in
     let l = c.args.list.now in
     let p = c.point_at-p.result in
     let v = c.loop-i.invariant in
     let more = c.loop-i-test.true in
     let back : i - 1 + 1 ≡ i = omega (arith, more) in
-    let read : p ≡ point_at l (i - 1) = c.point_at-p.ensures ∙ v.4.0 (i - 1) (omega (arith, more)) in
-    span-step (i - 1) n l (omega (arith, more, v.1, v.2)) c.requires.0
-    ∙ ap {B = List Point} (λ r. r ∷ span (i - 1 + 1) n l) (sym read)
-    ∙ ap {B = List Point} (λ k. p ∷ span k n l) back
+    points_from_back (i - 1) l p (omega (arith, more, v.1, v.2, v.3)) (c.point_at-p.ensures ∙ v.4.0 (i - 1) (omega (arith, more)))
+    ∙ ap {B = List Point} (λ k. p ∷ drop k (points l)) back
 
-test : (c : After-is_needed) → c.is_needed.result ≡ is_needed c.point_at-a.result c.point_at-p.result (Chains.chain (skimmed c.point_at-a.result (span c.loop-i.i c.args.n c.args.list.now)))
-test c = c.is_needed.ensures ∙ ap (is_needed c.point_at-a.result c.point_at-p.result) c.loop-i.invariant.4.1
+test : (c : After-is_needed)
+    → c.is_needed.result ≡ is_needed c.point_at-a.result c.point_at-p.result (Chains.chain (skimmed c.point_at-a.result (drop c.loop-i.i (points c.args.list.now))))
+test c = c.is_needed.ensures
+    ∙ ap (is_needed c.point_at-a.result c.point_at-p.result) (points_tail c.loop-i.m c.loop-i.list ∙ c.loop-i.invariant.4.1)
 
 pub loop-i-init : goal.loop-i-init
 unfolding Chains.chain
 loop-i-init c =
-    let none = span_end c.args.n c.args.n c.args.list.now (omega arith) c.requires.0 in (
-      omega (arith, c.requires.1),
+    let none = points_end (length c.args.list.now / 2) c.args.list.now (omega arith) in (
+      omega (arith, c.requires),
       omega arith,
       omega arith,
       refl,
@@ -50,11 +50,11 @@ loop-i-preserved-then-is_needed c =
     let q = c.push-m in
     let a = c.point_at-a.result in
     let p = c.point_at-p.result in
-    let rest = span c.loop-i.i c.args.n c.args.list.now in
+    let rest = drop c.loop-i.i (points c.args.list.now) in
     let kept : skimmed a (p ∷ rest) ≡ p ∷ skimmed a rest = skim_keep a p rest (sym (test here) ∙ c.if-is_needed.true) in (
       omega (arith, more),
       omega (arith, q.ensures.room.0, v.1),
-      omega (arith, q.ensures.room.1),
+      omega (arith, q.ensures.room.1, q.auto.list),
       q.auto.list ∙ v.3,
       (
         (λ j h. q.ensures.before j (omega (arith, h, v.1)) ∙ v.4.0 j (omega (arith, h))),
@@ -69,7 +69,7 @@ loop-i-preserved c =
     let more = c.loop-i-test.true in
     let a = c.point_at-a.result in
     let p = c.point_at-p.result in
-    let rest = span c.loop-i.i c.args.n c.args.list.now in (
+    let rest = drop c.loop-i.i (points c.args.list.now) in (
       omega (arith, more),
       omega (arith, v.1),
       v.2,
@@ -80,16 +80,21 @@ loop-i-preserved c =
       ),
     )
 
-pub returns-clause-left : goal.returns-clause-left
+pub returns-clause-parity : goal.returns-clause-parity
+returns-clause-parity c =
+    let l = c.push-m-2.new.list in
+    let k = c.push-m-2.result in
+    let size = length-take (length l - 2 * k) (drop (2 * k) l) in
+    omega (arith, size, length-drop (2 * k) l, c.push-m-2.auto.list, c.push-m-2.ensures.room.1, c.loop-i.invariant.3)
+
+pub returns-clause-points : goal.returns-clause-points
 unfolding Chains.chain skim_chain
-returns-clause-left c =
+returns-clause-points c =
     let l = c.args.list.now in
-    let n = c.args.n in
-    let s = c.args.s in
     let a = c.point_at-a.result in
     let v = c.loop-i.invariant in
-    let all : c.loop-i.i ≡ s + 1 = omega (arith, c.loop-i-test.false, v.0) in
-    let whole : span s n l ≡ a ∷ span (s + 1) n l =
-    span-step s n l c.requires.1 c.requires.0 ∙ ap {B = List Point} (λ r. r ∷ span (s + 1) n l) (sym c.point_at-a.ensures) in
-    c.push.ensures.left ∙ ap (Chains.push a) (v.4.1 ∙ ap (λ (k : ℕ). Chains.chain (skimmed a (span k n l))) all)
+    let all : c.loop-i.i ≡ 1 = omega (arith, c.loop-i-test.false, v.0) in
+    let whole : points l ≡ a ∷ drop 1 (points l) = points_from_back 0 l a c.requires c.point_at-a.ensures in
+    points_tail c.push-m-2.result c.push-m-2.new.list
+    ∙ c.push-m-2.ensures.left ∙ ap (Chains.push a) (v.4.1 ∙ ap (λ (k : ℕ). Chains.chain (skimmed a (drop k (points l)))) all)
     ∙ sym (ap skim_chain whole)

@@ -1,71 +1,44 @@
 -- `joined_chains::join` meets its contract.
-use mathlib.Core.Path.{◌≡◌, sym, ap, ◌∙◌}
+use mathlib.Core.Path.{◌≡◌, sym, ap, ap₂, ◌∙◌}
 use mathlib.Core.List.{List, ◌++◌}
-use Prim.Native.Nat.{◌+◌, ◌*◌, ◌-◌, ◌≤◌}
+use Prim.Native.Nat.{ℕ, ◌+◌, ◌*◌, ◌-◌}
 use native.Mathlib.Omega.{arith}
-use lib.ListN.{length, length-append}
+use lib.IntN.{ℤ, pos}
+use lib.ListN.{length, length-append, replicate}
 use Rattle.geometry.specs.declared.Point.{Point}
-use Rattle.geometry.specs.Points.{points, first_points}
-use Rattle.hull.specs.Chains.{inner}
-use Rattle.hull_chains.specs.Spans.{span}
-use Rattle.hull_chains.proofs.Spanning.{span-length}
-use Rattle.joined_chains.proofs.Joining.{inner-span, laid_from}
+use Rattle.geometry.specs.Points.{points}
+use Rattle.joined_chains.specs.Laid.{joined}
+use Rattle.joined_chains.proofs.Joining.{points_even, laid_numbers}
 use Rattle.joined_chains.proofs.join.Goals as goal
-use Rattle.joined_chains.proofs.join.Goals.{Start}
+use Rattle.joined_chains.proofs.join.Goals.{After-inner-inside}
 
--- how many points there are
-module _ (c : Start) where
-  abbrev first : List Point
-  first = span c.args.l c.args.n c.args.lower.now
+size_is : (c : After-inner-inside) → length c.args.lower.now + length c.inner-inside.result.now ≡ 2 * length (joined c.args.lower.now c.args.upper.now)
+size_is c =
+    let all : length (points c.args.lower.now) + length (points c.inner-inside.result.now) ≡ length (joined c.args.lower.now c.args.upper.now) =
+    sym (length-append (points c.args.lower.now) (points c.inner-inside.result.now))
+    ∙ ap (λ (Q : List Point). length (points c.args.lower.now ++ Q)) c.inner-inside.ensures.0 in
+    omega
+    (arith, all, points_even c.args.lower.now c.requires.even.0, points_even c.inner-inside.result.now c.inner-inside.ensures.1)
 
-  abbrev second : List Point
-  second = inner (span c.args.u c.args.v c.args.upper.now)
+pub split_at_mut-front-requires : goal.split_at_mut-front-requires
+split_at_mut-front-requires c = omega (arith, size_is (goal.at.split_at_mut-front-requires c).After-inner-inside, c.requires.room)
 
-  second_is : second ≡ span (c.args.u + 1) (c.args.v - 1) c.args.upper.now
-  second_is = inner-span c.args.u c.args.v c.args.upper.now c.requires.n_in_bounds.3 c.requires.n_in_bounds.4
+pub split_at_mut-middle-requires : goal.split_at_mut-middle-requires
+split_at_mut-middle-requires c =
+    omega (arith, size_is (goal.at.split_at_mut-middle-requires c).After-inner-inside, c.requires.room, c.split_at_mut-front.ensures.back_len)
 
-  first_size : length first ≡ c.args.n - c.args.l
-  first_size = span-length c.args.l c.args.n c.args.lower.now c.requires.n_in_bounds.0
+pub returns-clause-size : goal.returns-clause-size
+returns-clause-size c = omega (arith, size_is (goal.at.returns-clause-size c).After-inner-inside)
 
-  second_size : length second ≡ c.args.v - 1 - (c.args.u + 1)
-  second_size = ap length second_is ∙ span-length (c.args.u + 1) (c.args.v - 1) c.args.upper.now (omega (arith, c.requires.n_in_bounds.3))
-
-  room : 2 * (c.args.n - c.args.l + (c.args.v - 1 - (c.args.u + 1))) ≤ length c.args.list.now
-  room = omega (arith, c.requires.upper_in_bounds, length-append first second, first_size, second_size)
-
-pub copy_points-k-requires : goal.copy_points-k-requires
-copy_points-k-requires c =
-    (omega (arith, c.requires.n_in_bounds.0, c.requires.n_in_bounds.1), c.requires.n_in_bounds.0, omega (arith, room (goal.at.copy_points-k-requires c).Start))
-
-pub copy_points-m-requires : goal.copy_points-m-requires
-copy_points-m-requires c = (
-  omega (arith, c.requires.n_in_bounds.3, c.requires.n_in_bounds.4),
-  omega (arith, c.requires.n_in_bounds.3),
-  omega
-      (arith, room (goal.at.copy_points-m-requires c).Start, c.copy_points-k.ensures.size, c.copy_points-k.auto.list),
-)
-
-pub clear-requires : goal.clear-requires
-clear-requires c =
-    let q = c.copy_points-m in
-    let r = c.copy_points-k in
-    omega (arith, room (goal.at.clear-requires c).Start, q.ensures.size, r.ensures.size, q.auto.list, r.auto.list)
-
-pub returns : goal.returns
-unfolding points
-returns c =
-    let s = (goal.at.returns c).Start in
-    let q = c.copy_points-m in
-    let r = c.copy_points-k in
-    let left = q.new.list in
-    let all : first_points q.result left ≡ first s ++ second s =
-    q.ensures.left
-    ∙ ap {B = List Point} (λ Q. Q ++ span (c.args.u + 1) (c.args.v - 1) c.args.upper.now) r.ensures.left
-    ∙ ap {B = List Point} (λ Q. first s ++ Q) (sym (second_is s)) in
-    let size : q.result ≡ length (first s ++ second s) =
-    omega (arith, q.ensures.size, r.ensures.size, length-append (first s) (second s), first_size s, second_size s) in
-    let same : length left ≡ length c.args.list.now = q.auto.list ∙ r.auto.list in record {
-      size = size;
-      left = c.clear.ensures ∙ laid_from q.result (length c.args.list.now) (first s ++ second s) left all size
-          (omega (arith, room s, q.ensures.size, r.ensures.size, same)) same;
-    }
+pub returns-clause-left : goal.returns-clause-left
+returns-clause-left c =
+    let lower = c.args.lower.now in
+    let inside = c.inner-inside.result.now in
+    let n = length c.args.list.now in
+    let rest : length c.split_at_mut-middle.result.1.now ≡ n - (length lower + length inside) =
+    omega (arith, c.split_at_mut-middle.ensures.back_len, c.split_at_mut-front.ensures.back_len) in
+    ap₂ (λ (a r : List ℤ). a ++ r) c.copy_from_slice.ensures.after
+    (ap₂ (λ (b r : List ℤ). b ++ r) c.copy_from_slice-2.ensures.after
+    (c.fill.ensures.after (λ y e. e) ∙ ap (λ (k : ℕ). replicate k (pos 0)) rest))
+    ∙ laid_numbers lower inside (joined lower c.args.upper.now) n c.requires.even.0 c.inner-inside.ensures.1
+    (ap (λ (Q : List Point). points lower ++ Q) c.inner-inside.ensures.0)

@@ -17,12 +17,12 @@ some l r = omega (arith, some_length l r.some, even_length l r.even)
 pub widest-requires : goal.widest-requires
 widest-requires c =
     let l = c.args.list.now in
-    let r = accepted_list l (enclosure (points l)) c.in-Passed.ensures in
+    let r = accepted_list l (enclosure (points l)) c.in_ok-check.ensures in
     (some l r, r.boxed)
 
 pub widest_by_hull-requires : goal.widest_by_hull-requires
 widest_by_hull-requires c =
     let l = c.args.list.now in
-    let r = accepted_list l (enclosure (points l)) c.in-Passed.ensures in
+    let r = accepted_list l (enclosure (points l)) c.in_ok-check.ensures in
     let even = even_length l r.even in
     (record { even = even; some = some l r; boxed = r.boxed }, omega (arith, even, r.few))
