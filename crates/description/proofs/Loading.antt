@@ -1,7 +1,7 @@
 -- The loader's answer, check by check, and what the list holds then.
 --
 --   load_no_room, load_long, load_judged : the checks 8 and 1, and where neither is due
---   after_refused, after_given           : the list as it was, or with the points at its front
+--   after_refused, after_no_room, after_given : the list as it was, or with the points at its front
 --   front_pasted                         : points copied over the front
 use Prim.Native.Nat.{ℕ, ◌≤◌, ◌<◌}
 use mathlib.Core.Path.{◌≡◌, sym, ◌∙◌, ap, ap₂}
@@ -32,6 +32,9 @@ module _ (text : List ℕ) (list : List ℤ) where
   pub after_refused : (k : ℕ) → load_of text list ≡ refused k → list_after text list ≡ list
   unfolding list_after
   after_refused k h = rw h
+
+  pub after_no_room : length list < 8192 → list ≡ list_after text list
+  after_no_room h = sym (after_refused 8 (load_no_room h))
 
   pub after_given : (n : ℕ) → load_of text list ≡ given n → list_after text list ≡ flat (named text) ++ drop (length (flat (named text))) list
   unfolding list_after

@@ -7,16 +7,13 @@
 --   load_of text list    == the loader's answer: the number of points, or the refusal due first
 --   room                == a list that the loader can be lent: as short as it takes
 --   list_after text list == what the lent list holds after the call
---   outcome r           == the answer r as a number of points or document 01's number
 use Rattle.std.specs.Prelude.{ℕ, suc, not, List, [], ◌∷◌, map, eqb, leb, ltb, ℤ, pos, length, replicate}
-use Rattle.answers.specs.Outcome.{Outcome, given, refused, number_of, refuse_if}
+use Rattle.answers.specs.Outcome.{Outcome, given, refused, refuse_if}
 use Rattle.answers.specs.Lent.{front_put}
 use Rattle.geometry.specs.declared.Point.{Point}
 use Rattle.geometry.specs.EmBox.{in_em_box}
 use Rattle.geometry.specs.Points.{flat}
 use Rattle.lines.specs.Line.{Line, blank, point, fault, lines_of, line_of}
-use Rattle.description.specs.declared.Loaded.{Loaded}
-use Rattle.description.specs.declared.Loaded.TheVariants.{Points, Refused}
 
 abbrev pub lines_read : List ℕ → List Line
 lines_read text = map line_of (lines_of text)
@@ -58,7 +55,3 @@ list_by (refused k) front list = list
 -- the points in file order at the front of the list and the rest as it was; refused, all as it was
 unfoldable pub list_after : List ℕ → List ℤ → List ℤ
 list_after text list = list_by (load_of text list) (flat (named text)) list
-
-abbrev pub outcome : Loaded → Outcome ℕ
-outcome (Points n) = given n
-outcome (Refused r) = refused (number_of r)

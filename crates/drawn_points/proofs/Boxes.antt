@@ -1,10 +1,11 @@
 -- A point against the em box.
 --
 --   in_x, in_y                              == a coordinate lies in its range
---   boxed_inside, boxed_beside, boxed_above : the verdict, by the two tests
+--   boxed_beside, boxed_above               : the verdict, by the two tests
 --   narrow_x, narrow_y                      : a coordinate in its range fits an i16
+--   too_wide_x, too_wide_y                  : the verdict where one fits none
 --   floats-judged                           : the verdict on two floats, by what each was read as: far numbers need not be told apart
-use mathlib.Core.Path.{◌≡◌, refl, sym, ap, ap₂, ◌∙◌}
+use mathlib.Core.Path.{◌≡◌, refl, sym, ap, ap₂, ◌∙◌, subst}
 use mathlib.Core.Bool.{Bool, true, false, not, ◌&&◌}
 use Prim.Native.Nat.{◌≤◌}
 use native.Mathlib.Nat.{lt_of_le_of_lt}
@@ -12,8 +13,9 @@ use borrow.Author.Tests.{lt-ltb}
 use lib.Dec.{lit<}
 use lib.Ieee.{Float}
 use lib.IntN.{ℤ, nat_abs}
-use mir.Syntax.{w16}
-use mir.Val.{SFits}
+use mir.Facts.{to_z-of_z}
+use mir.Syntax.{w16, w64}
+use mir.Val.{SFits, to_z, of_z}
 use Rattle.answers.specs.Outcome.{Outcome, given, refused, refuse_if, and_then}
 use Rattle.answers.proofs.OutcomeLaws.{not_given, given_same}
 use Rattle.integers.specs.Order.{between}
@@ -30,29 +32,41 @@ use Rattle.drawn_points.specs.declared.DrawnPoint.TheVariants.{Drawn}
 use Rattle.drawn_points.specs.Judging.{boxed, judged}
 
 -- x, and y, lies in its range
-abbrev pub in_x : ℤ → Bool
+abbrev in_x : ℤ → Bool
 in_x x = between em.left x em.right
 
-abbrev pub in_y : ℤ → Bool
+abbrev in_y : ℤ → Bool
 in_y y = between em.foot y em.top
 
-pub boxed_inside : (x y : ℤ) → in_x x ≡ true → in_y y ≡ true → boxed (record { x = x; y = y }) ≡ given (record { x = x; y = y })
-unfolding in_box
-boxed_inside x y h k = rw (h, k)
-
-pub boxed_beside : (x y : ℤ) → in_x x ≡ false → boxed (record { x = x; y = y }) ≡ refused 3
+boxed_beside : (x y : ℤ) → in_x x ≡ false → boxed (record { x = x; y = y }) ≡ refused 3
 unfolding in_box
 boxed_beside x y h = rw h
 
-pub boxed_above : (x y : ℤ) → in_x x ≡ true → in_y y ≡ false → boxed (record { x = x; y = y }) ≡ refused 3
+boxed_above : (x y : ℤ) → in_x x ≡ true → in_y y ≡ false → boxed (record { x = x; y = y }) ≡ refused 3
 unfolding in_box
 boxed_above x y h k = rw (h, k)
 
-pub narrow_x : (x : ℤ) → in_x x ≡ true → SFits w16 x
+narrow_x : (x : ℤ) → in_x x ≡ true → SFits w16 x
 narrow_x x h = fits (v_abs {n = largest em} (between_most em.left x em.right (left_size em) (right_size em) h)) tt
 
-pub narrow_y : (y : ℤ) → in_y y ≡ true → SFits w16 y
+narrow_y : (y : ℤ) → in_y y ≡ true → SFits w16 y
 narrow_y y h = fits (v_abs {n = largest em} (between_most em.foot y em.top (foot_size em) (top_size em) h)) tt
+
+-- a coordinate that fits no i16, as the machine reads it back, is outside
+wide_x : (x y : ℤ) (b : Bool) → in_x x ≡ b → (SFits w16 x → ⊥) → refused 3 ≡ boxed (record { x = x; y = y })
+wide_x x y true h f = absurd (f (narrow_x x h))
+wide_x x y false h f = sym (boxed_beside x y h)
+
+wide_y : (x y : ℤ) (a b : Bool) → in_x x ≡ a → in_y y ≡ b → (SFits w16 y → ⊥) → refused 3 ≡ boxed (record { x = x; y = y })
+wide_y x y false b h k f = sym (boxed_beside x y h)
+wide_y x y true true h k f = absurd (f (narrow_y y k))
+wide_y x y true false h k f = sym (boxed_above x y h k)
+
+pub too_wide_x : (x y : ℤ) → SFits w64 x → (SFits w16 (to_z w64 (of_z w64 x)) → ⊥) → refused 3 ≡ boxed (record { x = x; y = y })
+too_wide_x x y s f = wide_x x y (in_x x) refl (λ g. f (subst (SFits w16) (sym (to_z-of_z s)) g))
+
+pub too_wide_y : (x y : ℤ) → SFits w64 y → (SFits w16 (to_z w64 (of_z w64 y)) → ⊥) → refused 3 ≡ boxed (record { x = x; y = y })
+too_wide_y x y s f = wide_y x y (in_x x) (in_y y) refl refl (λ g. f (subst (SFits w16) (sym (to_z-of_z s)) g))
 
 -- ---- far coordinates
 

@@ -4,18 +4,15 @@
 --   taken_of p list n     == the point that is put behind the first n points of the list, or the refusal due first
 --   append_of p list n    == what the call answers: the new number of points, or the refusal
 --   list_after p list n   == what the lent list holds after the call
---   outcome r            == the answer r as a number of points or the papers' number of the refusal
 --
 -- The points that are there already are not looked at.
 use Rattle.std.specs.Prelude.{ℕ, suc, ◌*◌, not, List, ◌∷◌, ◌++◌, leb, ltb, ℤ, length, take, drop}
-use Rattle.answers.specs.Outcome.{Outcome, given, refused, number_of, refuse_if, and_then}
+use Rattle.answers.specs.Outcome.{Outcome, given, refused, refuse_if, and_then}
 use Rattle.geometry.specs.declared.Point.{Point}
 use Rattle.geometry.specs.EmBox.{in_em_box}
 use Rattle.whole_floats.specs.Whole.{whole_of}
 use Rattle.drawn_points.specs.declared.DrawnPoint.{DrawnPoint}
 use Rattle.drawn_points.specs.declared.DrawnPoint.TheVariants.{Whole, Drawn}
-use Rattle.drawn_points.specs.declared.Appended.{Appended}
-use Rattle.drawn_points.specs.declared.Appended.TheVariants.{Points, Refused}
 
 abbrev pub place_of : DrawnPoint → Outcome Point
 place_of (Whole x y) = given (record { x = x; y = y })
@@ -41,7 +38,3 @@ put_behind (refused k) list n = list
 
 abbrev pub list_after : DrawnPoint → List ℤ → ℕ → List ℤ
 list_after p list n = put_behind (taken_of p list n) list n
-
-abbrev pub outcome : Appended → Outcome ℕ
-outcome (Points n) = given n
-outcome (Refused r) = refused (number_of r)

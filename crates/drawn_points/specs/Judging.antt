@@ -2,14 +2,11 @@
 --
 --   boxed c       == the point c, or 3 where it is outside the em box
 --   judged p      == the point that p names, or 11, then 3
---   verdict r     == the point, or the number of the refusal, of an answer r
 use Rattle.std.specs.Prelude.{not}
-use Rattle.answers.specs.Outcome.{Outcome, given, refused, number_of, refuse_if, and_then}
+use Rattle.answers.specs.Outcome.{Outcome, given, refuse_if, and_then}
 use Rattle.geometry.specs.declared.Point.{Point}
 use Rattle.geometry.specs.EmBox.{in_em_box}
 use Rattle.drawn_points.specs.declared.DrawnPoint.{DrawnPoint}
-use Rattle.drawn_points.specs.declared.Verdict.{Verdict}
-use Rattle.drawn_points.specs.declared.Verdict.TheVariants.{Inside, Outside}
 use Rattle.drawn_points.specs.Appending.{place_of}
 
 abbrev pub boxed : Point → Outcome Point
@@ -17,7 +14,3 @@ boxed c = refuse_if (not (in_em_box c)) 3 (given c)
 
 abbrev pub judged : DrawnPoint → Outcome Point
 judged p = and_then (place_of p) boxed
-
-abbrev pub verdict : Verdict → Outcome Point
-verdict (Inside c) = given c
-verdict (Outside r) = refused (number_of r)

@@ -2,13 +2,13 @@
 #![tactic(auto)]
 
 ghost use Rattle.std.specs.Prelude.{◌≡◌};
+ghost use Rattle.answers.specs.Outcome.{outcome};
 ghost use Rattle.drawn_points.specs.declared.DrawnPoint.TheVariants.{Drawn};
-ghost use Rattle.drawn_points.specs.Appending.{append_of, list_after, outcome};
-ghost use Rattle.drawn_points.specs.Judging.{boxed, judged, verdict};
+ghost use Rattle.drawn_points.specs.Appending.{append_of, list_after};
+ghost use Rattle.drawn_points.specs.Judging.{boxed, judged};
 
 use answers::Refusal;
 use geometry::Point;
-use whole_floats::Coordinate;
 
 // A point as the drawing program hands it over.
 #[derive(Drop)]
@@ -17,78 +17,56 @@ pub enum DrawnPoint {
     Drawn(f64, f64),
 }
 
-#[derive(Drop)]
-pub enum Appended {
-    // How many points the list holds now.
-    Points(usize),
-    Refused(Refusal),
-}
-
-// A point of the em box, or why there is none.
-#[derive(Drop)]
-enum Verdict {
-    Inside(Point),
-    Outside(Refusal),
-}
-
 const POINTS: usize = 4096;
 
 const NUMBERS: usize = 8192;
 
 // The point (x, y), which may lie anywhere, if it lies in the em box.
-fn point_in_box(x: i64, y: i64) -> Verdict
-    ensures { verdict result ≡ boxed (record { x = x; y = y }) }
+#[tactic(auto, using(crate::proofs::Boxes::too_wide_x, crate::proofs::Boxes::too_wide_y))]
+fn point_in_box(x: i64, y: i64) -> Result<Point, Refusal>
+    ensures { outcome result ≡ boxed (record { x = x; y = y }) }
 {
-    let em = geometry::em_limits();
-    if integers::is_between(em.left, x, em.right) {
-        if integers::is_between(em.foot, y, em.top) {
-            return Verdict::Inside(Point {
-                x: x as i16,
-                y: y as i16,
-            });
-        }
+    let (Ok(x), Ok(y)) = (i16::try_from(x), i16::try_from(y)) else {
+        return Err(Refusal::OutsideBox);
+    };
+    let p = Point { x, y };
+    if !geometry::in_em_box(p) {
+        return Err(Refusal::OutsideBox);
     }
-    Verdict::Outside(Refusal::OutsideBox)
+    Ok(p)
 }
 
-fn judge_floats(x: f64, y: f64) -> Verdict
-    ensures { verdict result ≡ judged (Drawn x y) }
+fn judge_floats(x: f64, y: f64) -> Result<Point, Refusal>
+    ensures { outcome result ≡ judged (Drawn x y) }
 {
-    match whole_floats::whole_number(x) {
-        Coordinate::Whole(a) => match whole_floats::whole_number(y) {
-            Coordinate::Whole(b) => point_in_box(a, b),
-            Coordinate::Broken => Verdict::Outside(Refusal::NotWhole),
-        },
-        Coordinate::Broken => Verdict::Outside(Refusal::NotWhole),
-    }
+    let a = whole_floats::whole_number(x).ok_or(Refusal::NotWhole)?;
+    let b = whole_floats::whole_number(y).ok_or(Refusal::NotWhole)?;
+    point_in_box(a, b)
 }
 
-fn judge(p: DrawnPoint) -> Verdict
-    ensures { verdict result ≡ judged p }
+fn judge(p: DrawnPoint) -> Result<Point, Refusal>
+    ensures { outcome result ≡ judged p }
 {
     match p {
-        DrawnPoint::Whole(x, y) => point_in_box(x as i64, y as i64),
+        DrawnPoint::Whole(x, y) => point_in_box(i64::from(x), i64::from(y)),
         DrawnPoint::Drawn(x, y) => judge_floats(x, y),
     }
 }
 
-// Puts p behind the first n points of the list; the rest of the list stays.
-pub fn append_point(p: DrawnPoint, list: &mut [i16], n: usize) -> Appended
+// Puts p behind the first n points of the list, and answers with how many it holds now; the rest of the list stays.
+pub fn append_point(p: DrawnPoint, list: &mut [i16], n: usize) -> Result<usize, Refusal>
     ensures result_value { outcome result ≡ append_of p list.old n }
     ensures list_after { list.new ≡ list_after p list.old n }
 {
-    let found = judge(p);
+    // Document 01 has this form: p is matched before the checks.
+    let judged = judge(p);
     if list.len() < NUMBERS {
-        return Appended::Refused(Refusal::NoRoom);
+        return Err(Refusal::NoRoom);
     }
-    match found {
-        Verdict::Inside(q) => {
-            if POINTS <= n {
-                return Appended::Refused(Refusal::TooMany);
-            }
-            point_lists::put_point(list, n, q);
-            Appended::Points(n + 1)
-        }
-        Verdict::Outside(r) => Appended::Refused(r),
+    let q = judged?;
+    if POINTS <= n {
+        return Err(Refusal::TooMany);
     }
+    point_lists::put_point(list, n, q);
+    Ok(n + 1)
 }

@@ -1,3 +1,4 @@
 pub mod OneKind
+pub mod Front
 pub mod Words
 pub mod Lines

@@ -17,7 +17,7 @@ use Rattle.lines.specs.Line.{words_of, blank, point, fault, line_of_words, line_
 use Rattle.numerals.specs.Numeral.{numeral}
 use Rattle.numerals.specs.Places.{is_feed, is_space, ends_word, from, ends, word, after_word, no_space}
 use Rattle.lines.specs.LineAt.{first_line, after_line, after_spaces}
-use Rattle.numerals.proofs.Places.{from_here, up_to_on}
+use Rattle.numerals.proofs.Front.{from_here, up_to_on}
 use Rattle.lines.proofs.Words.{words-spaces, words_none, words_first, feed_later}
 
 -- ---- the end of the line

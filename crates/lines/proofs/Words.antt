@@ -16,7 +16,7 @@ use borrow.Author.Tests.{eqb-true}
 use Rattle.lines.specs.Line.{join_piece, pieces, non_empty, lines_of, words_of}
 use Rattle.numerals.specs.Places.{is_byte, is_feed, is_space, up_to, from, ends, word, after_word}
 use Rattle.lines.specs.LineAt.{first_line, after_line, after_spaces}
-use Rattle.numerals.proofs.Places.{up_to_here}
+use Rattle.numerals.proofs.Front.{up_to_here}
 
 -- the claim of `pieces_first`, of all bytes that are some
 abbrev FirstPiece : ℕ → List ℕ → Type 0

@@ -1,72 +1,53 @@
 // Lines of a text: blank, a point, or a fault (01, "Description, sheet, record").
 #![tactic(auto)]
 
-ghost use Rattle.std.specs.Prelude.{◌≡◌, ◌≤◌, length, drop};
-ghost use Rattle.numerals.specs.Places.{is_feed, ends, Reaches};
-ghost use Rattle.lines.specs.LineAt.{after_spaces, LineAt};
+ghost use Rattle.std.specs.Prelude.{◌≡◌, true, false, drop, MatchOption, MatchResult};
+ghost use Rattle.answers.specs.declared.Refusal.TheVariants.{BadLine};
+ghost use Rattle.numerals.specs.Places.{is_feed, ends};
+ghost use Rattle.lines.specs.Line.{fault, line_of};
+ghost use Rattle.lines.specs.LineAt.{first_line, after_line, after_spaces, line_naming};
 
+use answers::Refusal;
 use geometry::Point;
-use numerals::Number;
 
-// A line, and the place where the next one starts.
-#[derive(Drop)]
-pub enum Scanned {
-    Blank(usize),
-    Point(Point, usize),
-    Fault,
+// What follows the spaces in front of the text.
+#[tactic(auto, using(crate::proofs::Front::space_behind, crate::proofs::Front::space_other, crate::proofs::Front::space_none))]
+fn skip_spaces(text: &[u8]) -> &[u8]
+    ensures { result.now ≡ after_spaces text.now }
+{
+    let mut rest = text;
+    while let [b' ', next @ ..] = rest {
+        rest = next;
+    }
+    rest
 }
 
-// Whether the line ends at the place: there is a line feed or nothing.
-fn line_ends(text: &[u8], at: usize) -> bool
-    ensures { result ≡ ends is_feed (drop at text.now) }
+// Where a line ends in front of the text, with a line feed or with the text, what follows it.
+#[tactic(auto, using(crate::proofs::Front::over, crate::proofs::Front::no_rest, crate::proofs::Front::feed, crate::proofs::Front::no_feed, crate::proofs::Front::rest))]
+fn past_line(text: &[u8]) -> Option<&[u8]>
+    ensures { MatchOption result (ends is_feed text.now ≡ false) (λ rest. (ends is_feed text.now ≡ true) × (rest.now ≡ drop 1 text.now)) }
 {
-    if at < text.len() {
-        return text[at] == b'\n';
+    match text {
+        [] => Some(text),
+        [b'\n', rest @ ..] => Some(rest),
+        _ => None,
     }
-    true
 }
 
-// The place behind a line feed that may stand at the place.
-fn past_feed(text: &[u8], at: usize) -> usize
-    requires { at ≤ length text.now }
-    ensures { Reaches text.now result (drop 1 (drop at text.now)) }
+// The point that the line in front of the text names, None for a blank line, and the text behind the line. A line: spaces or none, x, one or
+// more spaces, y, spaces or none.
+pub fn read_line(text: &[u8]) -> Result<(Option<Point>, &[u8]), Refusal>
+    ensures { MatchResult result (λ r. (line_of (first_line text.now) ≡ line_naming r.0) × (r.1.now ≡ after_line text.now))
+        (λ e. (line_of (first_line text.now) ≡ fault) × (e ≡ BadLine)) }
 {
-    if at < text.len() {
-        return at + 1;
+    let first = skip_spaces(text);
+    if let Some(rest) = past_line(first) {
+        return Ok((None, rest));
     }
-    at
-}
-
-fn skip_spaces(text: &[u8], at: usize) -> usize
-    requires { at ≤ length text.now }
-    ensures { Reaches text.now result (after_spaces (drop at text.now)) }
-{
-    let mut i = at;
-    while numerals::is_at(text, i, b' ') {
-        i += 1;
-    }
-    i
-}
-
-// The line that starts at the place: spaces or none, x, one or more spaces, y, spaces or none.
-pub fn read_line(text: &[u8], at: usize) -> Scanned
-    requires { at ≤ length text.now }
-    ensures { LineAt text.now (drop at text.now) result }
-{
-    let first = skip_spaces(text, at);
-    if line_ends(text, first) {
-        return Scanned::Blank(past_feed(text, first));
-    }
-    let Number::Value(x, behind) = numerals::read_number(text, first) else {
-        return Scanned::Fault;
-    };
-    let second = skip_spaces(text, behind);
-    let Number::Value(y, after) = numerals::read_number(text, second) else {
-        return Scanned::Fault;
-    };
-    let last = skip_spaces(text, after);
-    if line_ends(text, last) {
-        return Scanned::Point(Point { x, y }, past_feed(text, last));
-    }
-    Scanned::Fault
+    let (x, behind) = numerals::read_number(first).ok_or(Refusal::BadLine)?;
+    let second = skip_spaces(behind);
+    let (y, after) = numerals::read_number(second).ok_or(Refusal::BadLine)?;
+    let last = skip_spaces(after);
+    let rest = past_line(last).ok_or(Refusal::BadLine)?;
+    Ok((Some(Point { x, y }), rest))
 }

@@ -1,3 +1,2 @@
-pub mod Places
+pub mod Front
 pub mod Digits
-pub mod Reading

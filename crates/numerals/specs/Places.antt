@@ -1,4 +1,4 @@
--- Places in the bytes of a text, for the contracts of the functions that read from one.
+-- The front of a text's bytes, for the contracts of the functions that read from it.
 --
 --   up_to stop bs         == the bytes before the first at which stop holds
 --   from stop bs         == the bytes from that one on
@@ -6,15 +6,7 @@
 --   starts f bs          == there is a first byte, and f holds of it
 --   ends f bs            == there is none, or f holds of it
 --   after_sign bs         == the bytes behind one plus or one minus that may stand at the front
---   Reaches text i rest  == i is a place of the text, and the bytes rest follow it
---   NaturalAt, NumberAt  == what the answers for the digits and the number at a place say
-use Rattle.std.specs.Prelude.{ℕ, ◌<◌, ◌≤◌, ◌≡◌, Bool, true, false, not, ◌||◌, List, [], ◌∷◌, eqb, length, drop}
-use Rattle.std.proofs.Math.Option.{none, some}
-use Rattle.numerals.specs.declared.Natural as natural
-use Rattle.numerals.specs.declared.Natural.{Natural}
-use Rattle.numerals.specs.declared.Number as number
-use Rattle.numerals.specs.declared.Number.{Number}
-use Rattle.numerals.specs.Numeral.{digits, numeral}
+use Rattle.std.specs.Prelude.{ℕ, Bool, true, false, not, ◌||◌, List, [], ◌∷◌, eqb}
 
 abbrev pub is_byte : ℕ → ℕ → Bool
 is_byte b a = eqb a b
@@ -67,17 +59,3 @@ is_sign b = is_byte 43 b || is_byte 45 b
 unfoldable pub after_sign : List ℕ → List ℕ
 after_sign [] = []
 after_sign (b ∷ bs) = keep_from (is_sign b) bs (b ∷ bs)
-
-pub record Reaches (text : List ℕ) (i : ℕ) (rest : List ℕ) : Type 0 where
-  pub inside : i ≤ length text
-  pub before : drop i text ≡ rest
-
--- the digits of the word at the bytes bs of the text
-abbrev pub NaturalAt : List ℕ → List ℕ → Natural → Type 0
-NaturalAt text bs (natural.TheVariants.Value v next) = (digits (word bs) ≡ some v) × (Reaches text next (after_word bs) × (v < 10000))
-NaturalAt text bs natural.TheVariants.Nothing = digits (word bs) ≡ none
-
--- the word at the bytes bs of the text as a number
-abbrev pub NumberAt : List ℕ → List ℕ → Number → Type 0
-NumberAt text bs (number.TheVariants.Value z next) = (numeral (word bs) ≡ some z) × Reaches text next (after_word bs)
-NumberAt text bs number.TheVariants.Nothing = numeral (word bs) ≡ none

@@ -1,145 +1,74 @@
 // Numbers in a text: one plus, one minus or no sign, then 1 to 4 decimal digits (01, "Description, sheet, record"; 02, item 1).
 #![tactic(auto)]
 
-ghost use Rattle.std.specs.Prelude.{◌≡◌, true, ◌&&◌, ◌-◌, ◌<◌, ◌≤◌, ltb, length, drop};
+ghost use Rattle.std.specs.Prelude.{◌≡◌, ◌<◌, MatchOption};
+ghost use Rattle.std.proofs.Math.Option.{none, some};
 ghost use Rattle.integers.specs.Order.{signed};
-ghost use Rattle.numerals.specs.Numeral.{is_digit};
-ghost use Rattle.numerals.specs.Places.{is_byte, is_sign, ends_word, starts, ends, after_sign, Reaches, NaturalAt, NumberAt};
+ghost use Rattle.numerals.specs.Numeral.{digits, numeral};
+ghost use Rattle.numerals.specs.Places.{is_byte, ends_word, starts, ends, after_sign, word, after_word};
 
-// The value of digits, and the place behind them.
-#[derive(Drop)]
-enum Natural {
-    Value(u16, usize),
-    Nothing,
-}
+// The most digits that a number has.
+const MOST: usize = 4;
 
-// The value of a number, and the place behind it.
-#[derive(Drop)]
-pub enum Number {
-    Value(i16, usize),
-    Nothing,
-}
-
-// Whether the byte b stands at the place.
-pub fn is_at(text: &[u8], at: usize, b: u8) -> bool
-    ensures { result ≡ starts (is_byte b) (drop at text.now) }
+// Whether a word ends in front of the text: there is a space, a line feed or nothing.
+#[tactic(auto, using(crate::proofs::Front::end_none, crate::proofs::Front::end_space, crate::proofs::Front::end_feed, crate::proofs::Front::end_other))]
+fn word_ends(text: &[u8]) -> bool
+    ensures { result ≡ ends ends_word text.now }
 {
-    if at < text.len() {
-        return text[at] == b;
-    }
-    false
+    matches!(text, [] | [b' ' | b'\n', ..])
 }
 
-fn is_digit(b: u8) -> bool
-    ensures { result ≡ is_digit b }
+// The value of the word in front of the text, if it is 1 to 4 digits, and what follows it.
+#[tactic(auto, using(crate::proofs::Digits::reading_room, crate::proofs::Digits::fifth))]
+fn read_digits(text: &[u8]) -> Option<(u16, &[u8])>
+    ensures { MatchOption result (digits (word text.now) ≡ none) (λ r. (digits (word text.now) ≡ some r.0) × (r.1.now ≡ after_word text.now) × (r.0 < 10000)) }
 {
-    if b < b'0' {
-        return false;
-    }
-    b <= b'9'
-}
-
-fn digit_at(text: &[u8], at: usize) -> bool
-    ensures { result ≡ starts is_digit (drop at text.now) }
-{
-    if at < text.len() {
-        return is_digit(text[at]);
-    }
-    false
-}
-
-// Whether a word ends at the place: there is a space, a line feed or nothing.
-fn word_ends(text: &[u8], at: usize) -> bool
-    ensures { result ≡ ends ends_word (drop at text.now) }
-{
-    if at < text.len() {
-        if text[at] == b' ' {
-            return true;
+    let mut v = 0;
+    let mut rest = text;
+    while let [d @ b'0'..=b'9', next @ ..] = rest {
+        if text.len() - rest.len() == MOST {
+            return None;
         }
-        return text[at] == b'\n';
+        v = 10 * v + u16::from(d - b'0');
+        rest = next;
     }
-    true
+    if rest.len() == text.len() || !word_ends(rest) {
+        return None;
+    }
+    Some((v, rest))
 }
 
-fn digit(b: u8) -> u16
-    requires { is_digit b ≡ true }
-    ensures { result ≡ b - 48 }
+#[tactic(auto, using(crate::proofs::Front::minus_there, crate::proofs::Front::other_there, crate::proofs::Front::none_there))]
+fn has_minus(text: &[u8]) -> bool
+    ensures { result ≡ starts (is_byte 45) text.now }
 {
-    (b - b'0') as u16
+    matches!(text, [b'-', ..])
 }
 
-// Whether a digit stands at place i, as one of the first four from the place on.
-fn digit_follows(text: &[u8], at: usize, i: usize) -> bool
-    requires { at ≤ i }
-    ensures { result ≡ (ltb (i - at) 4 && starts is_digit (drop i text.now)) }
+// What follows one sign that may stand in front of the text.
+#[tactic(auto, using(crate::proofs::Front::past_minus, crate::proofs::Front::past_plus, crate::proofs::Front::past_other, crate::proofs::Front::past_none))]
+fn past_sign(text: &[u8]) -> &[u8]
+    ensures { result.now ≡ after_sign text.now }
 {
-    if i - at < 4 {
-        return digit_at(text, i);
+    match text {
+        [b'+' | b'-', rest @ ..] => rest,
+        _ => text,
     }
-    false
-}
-
-// The digits of the word at the place. A fifth digit is no end of a word.
-fn read_digits(text: &[u8], at: usize) -> Natural
-    requires { at ≤ length text.now }
-    ensures { NaturalAt text.now (drop at text.now) result }
-{
-    if !digit_at(text, at) {
-        return Natural::Nothing;
-    }
-    let mut v = digit(text[at]);
-    let mut i = at + 1;
-    while digit_follows(text, at, i) {
-        v = 10 * v + digit(text[i]);
-        i += 1;
-    }
-    if word_ends(text, i) {
-        return Natural::Value(v, i);
-    }
-    Natural::Nothing
-}
-
-// Whether a plus or a minus stands at the place.
-fn sign_at(text: &[u8], at: usize) -> bool
-    ensures { result ≡ starts is_sign (drop at text.now) }
-{
-    if at < text.len() {
-        if text[at] == b'+' {
-            return true;
-        }
-        return text[at] == b'-';
-    }
-    false
-}
-
-// The place behind one sign that may stand at the place.
-fn past_sign(text: &[u8], at: usize) -> usize
-    requires { at ≤ length text.now }
-    ensures { Reaches text.now result (after_sign (drop at text.now)) }
-{
-    if sign_at(text, at) {
-        return at + 1;
-    }
-    at
 }
 
 fn with_sign(v: u16, minus: bool) -> i16
     requires { v < 10000 }
     ensures { result ≡ signed minus v }
 {
-    if minus {
-        return -(v as i16);
-    }
-    v as i16
+    if minus { -(v as i16) } else { v as i16 }
 }
 
-// The word at the place as a number: one plus, one minus or no sign, then digits.
-pub fn read_number(text: &[u8], at: usize) -> Number
-    requires { at ≤ length text.now }
-    ensures { NumberAt text.now (drop at text.now) result }
+// The word in front of the text as a number, one plus, one minus or no sign and then digits, and what follows it. Taken whole into the
+// line reader: else each answer goes through memory, and the loader takes 1.3 times as long.
+#[inline(always)]
+pub fn read_number(text: &[u8]) -> Option<(i16, &[u8])>
+    ensures { MatchOption result (numeral (word text.now) ≡ none) (λ r. (numeral (word text.now) ≡ some r.0) × (r.1.now ≡ after_word text.now)) }
 {
-    match read_digits(text, past_sign(text, at)) {
-        Natural::Value(v, next) => Number::Value(with_sign(v, is_at(text, at, b'-')), next),
-        Natural::Nothing => Number::Nothing,
-    }
+    let (v, rest) = read_digits(past_sign(text))?;
+    Some((with_sign(v, has_minus(text)), rest))
 }

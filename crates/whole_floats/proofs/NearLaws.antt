@@ -4,19 +4,20 @@
 --   near_not_finite                   : for a NaN or an infinity
 --   within_i64, back_in_float         : between the edges the cast to an i64 is taken, and the cast back
 --   back_same, back_other             : and the answer, by whether the cast back gives the float
---   near-beyond                       : beyond them
+--   near-beyond, answer-beyond        : beyond them
 --   near-between                      : no range within 2^53 tells z from near z
 use Rattle.std.proofs.Common.{◌≡◌, ℕ, ◌+◌, ◌*◌, ◌/◌, ◌%◌, ◌^◌, ◌<◌, ◌≤◌, Bool, true, false, cond, T, ltb, ◌⊎◌, ℤ, pos, nat_abs, sym, refl, ap, ◌∙◌, subst, inl, inr, true≢false, le_refl, le_of_lt, le-div_iff_mul-le, arith, lt→ltb, ltb-false, le-ltb, lt-ltb, eqb-true}
 use borrow.Author.Tests.{eqb-false}
 use lib.Ieee.{Float, nan, inf, fin, binary64, up, down, lt, eq, le, fits, of_int, to_signed, in_float}
 use lib.Ieee.Fits.{down_pos}
-use lib.Ieee.Scale.{finite}
+use Rattle.std.specs.Bool.{then_some}
+use Rattle.std.specs.Float.{float_is_finite}
 use Rattle.answers.specs.Outcome.{Outcome, given, refused, and_then}
 use Rattle.integers.specs.Order.{signed, between}
 use Rattle.integers.proofs.Signs.{abs_signed}
 use Rattle.integers.proofs.Tests.{between_most}
 use Rattle.whole_floats.specs.Whole.{whole_of}
-use Rattle.whole_floats.specs.Near.{far, near, near_of}
+use Rattle.whole_floats.specs.Near.{far, near, near_of, whole_or_11}
 use Rattle.whole_floats.proofs.WholeLaws.{given_whole, given_broken}
 use Rattle.whole_floats.proofs.Sizes.{edge, minus_edge, below-edge, beyond-edge, before-edge, far-whole, cut_lt, cut, castable, back_test}
 
@@ -42,8 +43,8 @@ module _ (s : Bool) (m : ℕ) (e : ℤ) where
       large : far ≤ m * up e / down e
       large = (le-div_iff_mul-le (down_pos e)).1 h
 
-pub near_not_finite : (v : Float) → finite v ≡ false → near_of v ≡ refused 11
-unfolding whole_of
+pub near_not_finite : (v : Float) → float_is_finite v ≡ false → near_of v ≡ refused 11
+unfolding whole_of float_is_finite
 near_not_finite nan h = refl
 near_not_finite (inf s) h = refl
 near_not_finite (fin s m e) h = absurd (true≢false h)
@@ -103,11 +104,18 @@ back_other (fin s m e) l h t =
     (sym (back_test s m e small) ∙ ap (λ (z : ℤ). eq (of_int binary64 z) (fin s m e)) (sym (cut s m e small)) ∙ t)))
 
 -- beyond them
-pub near-beyond : (v : Float) → T (fits binary64 v) → finite v ≡ true → (lt v edge ≡ false) ⊎ (lt minus_edge v ≡ false) → given (pos far) ≡ near_of v
+pub near-beyond : (v : Float) → T (fits binary64 v) → float_is_finite v ≡ true → (lt v edge ≡ false) ⊎ (lt minus_edge v ≡ false) → given (pos far) ≡ near_of v
+unfolding float_is_finite
 near-beyond nan t f o = absurd (true≢false (sym f))
 near-beyond (inf s) t f o = absurd (true≢false (sym f))
 near-beyond (fin s m e) t f (inl p) = sym (near-far s m e t (beyond-edge m e s p))
 near-beyond (fin s m e) t f (inr p) = sym (near-far s m e t (before-edge m e s p))
+
+-- the code's answer there
+pub answer-beyond : (v : Float) → T (fits binary64 v) → (b : Bool) → b ≡ float_is_finite v → (lt v edge ≡ false) ⊎ (lt minus_edge v ≡ false)
+    → whole_or_11 (then_some b (pos far)) ≡ near_of v
+answer-beyond v t true h o = near-beyond v t (sym h) o
+answer-beyond v t false h o = sym (near_not_finite v (sym h))
 
 -- ---- against a range
 

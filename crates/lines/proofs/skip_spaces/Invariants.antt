@@ -1,13 +1,11 @@
--- `lines::skip_spaces` meets its contract. The invariant: what follows the spaces from the place on follows those from the start on.
--- The measure is what is left of the text.
-use Prim.Native.Nat.{◌-◌, ◌≤◌}
-use mathlib.Core.Path.{◌≡◌}
-use lib.ListN.{length, drop}
+-- `lines::skip_spaces` meets its contract. The invariant: what follows the spaces of the rest follows those of the text. The measure is
+-- what is left.
+use Rattle.std.proofs.Common.{◌≡◌, length}
 use Rattle.lines.specs.LineAt.{after_spaces}
 use Rattle.lines.proofs.skip_spaces.Given as goal
 
-abbrev pub invariant-loop-i : goal.invariant-loop-i
-invariant-loop-i l = (l.i ≤ length l.text) × (after_spaces (drop l.i l.text) ≡ after_spaces (drop l.at l.text))
+abbrev pub invariant-loop-rest : goal.invariant-loop-rest
+invariant-loop-rest l = after_spaces l.rest ≡ after_spaces l.text
 
-abbrev pub decreases-loop-i : goal.decreases-loop-i
-decreases-loop-i l = length l.text - l.i
+abbrev pub decreases-loop-rest : goal.decreases-loop-rest
+decreases-loop-rest l = length l.rest

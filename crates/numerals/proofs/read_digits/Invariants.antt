@@ -1,12 +1,11 @@
--- `numerals::read_digits` meets its contract. The invariant: the bytes passed are one to four digits of the value v, and what follows
--- decides. The measure is what is left of the text.
-use Prim.Native.Nat.{◌-◌, ◌<◌}
+-- `numerals::read_digits` meets its contract. The invariant: the bytes before the rest are digits, four at most, of the value v. The
+-- measure is what is left of the text.
 use lib.ListN.{length}
-use Rattle.numerals.proofs.Reading.{Reading}
+use Rattle.numerals.proofs.Digits.{Reading}
 use Rattle.numerals.proofs.read_digits.Given as goal
 
-abbrev pub invariant-loop-v : goal.invariant-loop-v
-invariant-loop-v l = Reading l.text l.at l.v l.i × (l.at < l.i)
+abbrev pub invariant-loop-rest : goal.invariant-loop-rest
+invariant-loop-rest l = Reading l.text l.rest l.v
 
-abbrev pub decreases-loop-v : goal.decreases-loop-v
-decreases-loop-v l = length l.text - l.i
+abbrev pub decreases-loop-rest : goal.decreases-loop-rest
+decreases-loop-rest l = length l.rest
