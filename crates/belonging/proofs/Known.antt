@@ -1,7 +1,7 @@
 -- What the tests may ask of a disk and points that a record can hold.
 --
 --   small          : the disk's numbers are small
---   tested-one, tested-two, tested-three : the tests of Tests.antt, for such a disk and points
+--   tested_one, tested_two, tested_three : the tests of Tests.antt, for such a disk and points
 use mathlib.Core.Path.{◌≡◌, refl}
 use mathlib.Core.Bool.{true, ◌&&◌}
 use mathlib.Core.List.Memᴰ
@@ -23,17 +23,17 @@ pub small : (d : Disk) (ps : List Point) → valid d ps ≡ true → SmallDisk d
 small d ps h = limits_small d (valid_within em d (valid-disk em d ps h))
 
 module _ (d : Disk) (a : Point) (h : valid d (a ∷ []) ≡ true) where
-  pub tested-one : belongs d (a ∷ []) ≡ (on_boundary_test d a && eqb d.s 0)
-  tested-one = let v = valid-disk em d (a ∷ []) h in belongs-one d (limits em d v).e_some (valid-lowest em d v) a
+  pub tested_one : belongs d (a ∷ []) ≡ (on_boundary_test d a && eqb d.s 0)
+  tested_one = let v = valid-disk em d (a ∷ []) h in belongs-one d (limits em d v).e_some (valid-lowest em d v) a
 
 module _ (d : Disk) (a b : Point) (h : valid d (a ∷ b ∷ []) ≡ true) where
   -- the points rise
   apart : a ≡ b → ⊥
   apart = before_not_equal a b (((rising_test (a ∷ b ∷ [])).1 (rises em (a ∷ b ∷ []) (valid-points em d (a ∷ b ∷ []) h))).0 b (Memᴰ.head refl))
 
-  pub tested-two : belongs d (a ∷ b ∷ []) ≡ (on_boundary_test d a && opposite d a b)
-  tested-two = let v = valid-disk em d (a ∷ b ∷ []) h in belongs-two d (limits em d v).e_some (valid-lowest em d v) a b apart
+  pub tested_two : belongs d (a ∷ b ∷ []) ≡ (on_boundary_test d a && opposite d a b)
+  tested_two = let v = valid-disk em d (a ∷ b ∷ []) h in belongs-two d (limits em d v).e_some (valid-lowest em d v) a b apart
 
 module _ (d : Disk) (a b c : Point) (h : valid d (a ∷ b ∷ c ∷ []) ≡ true) where
-  pub tested-three : belongs d (a ∷ b ∷ c ∷ []) ≡ (on_boundary_test d a && (on_boundary_test d b && (on_boundary_test d c && acute a b c)))
-  tested-three = let v = valid-disk em d (a ∷ b ∷ c ∷ []) h in belongs-three d (limits em d v).e_some (valid-lowest em d v) a b c
+  pub tested_three : belongs d (a ∷ b ∷ c ∷ []) ≡ (on_boundary_test d a && (on_boundary_test d b && (on_boundary_test d c && acute a b c)))
+  tested_three = let v = valid-disk em d (a ∷ b ∷ c ∷ []) h in belongs-three d (limits em d v).e_some (valid-lowest em d v) a b c

@@ -7,7 +7,7 @@ ghost use Rattle.support_tests.specs.Tests.{on_boundary_test, opposite, acute, S
 ghost use Rattle.validity.specs.Valid.{valid};
 ghost use Rattle.belonging.specs.Belonging.{belongs};
 
-use geometry::{Disk, Point, SupportSet};
+use geometry::{Disk, Point, SupportSet, SupportedDisk};
 
 // Two points: the ends of a diameter. Where one is on the boundary, so is the other.
 fn is_diameter(d: Disk, a: Point, b: Point) -> bool
@@ -22,22 +22,20 @@ fn is_acute_on(d: Disk, a: Point, b: Point, c: Point) -> bool
     requires { SmallDisk (numbers d) }
     ensures { result ≡ (on_boundary_test (numbers d) a && (on_boundary_test (numbers d) b && (on_boundary_test (numbers d) c && acute a b c))) }
 {
-    if support_tests::on_boundary(d, a) {
-        if support_tests::on_boundary(d, b) {
-            if support_tests::on_boundary(d, c) {
-                return support_tests::is_acute(a, b, c);
-            }
-        }
-    }
-    false
+    support_tests::on_boundary(d, a)
+        && support_tests::on_boundary(d, b)
+        && support_tests::on_boundary(d, c)
+        && support_tests::is_acute(a, b, c)
 }
 
-// Whether the points of t belong to d, where a record can hold them.
-pub fn belongs(d: Disk, t: SupportSet) -> bool
-    requires { valid (numbers d) (members t) ≡ true }
-    ensures { result ≡ belongs (numbers d) (members t) }
+// Whether the points of f belong to its disk, where a record can hold them.
+#[tactic(auto, using(crate::proofs::Known::small, crate::proofs::Known::tested_one, crate::proofs::Known::tested_two, crate::proofs::Known::tested_three))]
+pub fn belongs(f: SupportedDisk) -> bool
+    requires { valid (numbers f.disk) (members f.support) ≡ true }
+    ensures { result ≡ belongs (numbers f.disk) (members f.support) }
 {
-    match t {
+    let d = f.disk;
+    match f.support {
         SupportSet::One(a) => support_tests::on_boundary(d, a) && wide_numbers::is_zero(d.s),
         SupportSet::Two(a, b) => is_diameter(d, a, b),
         SupportSet::Three(a, b, c) => is_acute_on(d, a, b, c),

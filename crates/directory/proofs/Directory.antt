@@ -6,6 +6,7 @@
 --   follow_early   : where pair i starts before `end`, it is broken
 --   follow_late    : where pair i ends behind the l bytes, it is broken
 --   follow_next    : else it holds as it does of the next pairs, with pair i's end
+--   rule_of_pairs  : the last four, for `search`
 use mathlib.Core.Path.{◌≡◌, sym, ap, ◌∙◌}
 use mathlib.Core.Bool.{true, false, ◌&&◌}
 use mathlib.Core.List.{List, [], ◌∷◌}
@@ -47,3 +48,5 @@ module _ (s : List ℕ) (l end i n : ℕ) where
   pub follow_next : i < n → end ≤ (pair s i).start → (pair s i).start + (pair s i).len ≤ l
       → follow ((pair s i).start + (pair s i).len) l (pairs s (i + 1) (n - (i + 1))) ≡ follow end l (pairs s i (n - i))
   follow_next h k m = sym (step h ∙ simp (le-leb end (pair s i).start k, le-leb ((pair s i).start + (pair s i).len) l m))
+
+pub ruleset rule_of_pairs = (follow_done, follow_early, follow_late, follow_next)

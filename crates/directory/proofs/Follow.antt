@@ -14,7 +14,8 @@ use borrow.Author.Tests.{leb-true}
 use lib.Dec.{leb}
 use lib.ListN.{length}
 use Rattle.integers.proofs.Tests.{first, rest}
-use Rattle.directory.specs.Directory.{Place, count, directory_end, pair, pairs, follow}
+use Rattle.directory.specs.declared.Place.{Place}
+use Rattle.directory.specs.Directory.{count, directory_end, pair, pairs, follow}
 
 -- ---- the rule of the pairs
 

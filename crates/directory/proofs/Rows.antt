@@ -2,8 +2,9 @@
 --
 --   too_long           : over 65,535 bytes gives 1
 --   cut_short          : else, shorter than the directory gives 6
---   pairs-broken       : else, pairs that break the rule give 6
+--   pairs_broken       : else, pairs that break the rule give 6
 --   count_given        : else the count is given
+--   row_of_checks      : these four, for `search`
 --   Counted s n        == the sheet s keeps every rule and has n glyphs
 --   count_known        : where the count n is given, this is so
 use mathlib.Core.Path.{◌≡◌, sym}
@@ -30,13 +31,15 @@ module _ (s : List ℕ) where
   abbrev rule_is : Bool
   rule_is = follow (directory_end s) (length s) (pairs s 0 (count s))
 
-  pub pairs-broken : length s ≤ 65535 → directory_end s ≤ length s → rule_is ≡ false → refused 6 ≡ count_of s
+  pub pairs_broken : length s ≤ 65535 → directory_end s ≤ length s → rule_is ≡ false → refused 6 ≡ count_of s
   unfolding count_of
-  pairs-broken h d f = simp (le-ltb 65535 (length s) h, le-ltb (length s) (directory_end s) d, f)
+  pairs_broken h d f = simp (le-ltb 65535 (length s) h, le-ltb (length s) (directory_end s) d, f)
 
   pub count_given : length s ≤ 65535 → directory_end s ≤ length s → rule_is ≡ true → given (count s) ≡ count_of s
   unfolding count_of
   count_given h d f = simp (le-ltb 65535 (length s) h, le-ltb (length s) (directory_end s) d, f)
+
+pub ruleset row_of_checks = (too_long, cut_short, pairs_broken, count_given)
 
 pub record Counted (s : List ℕ) (n : ℕ) : Type 0 where
   pub all : n ≡ count s

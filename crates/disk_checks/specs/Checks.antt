@@ -3,24 +3,17 @@
 --
 --   check_in l d ps == the refusal due first: 7 where no valid record by the limits l holds d and ps, 15 where ps do not belong to d; or that both are kept
 --   check_of d ps   == the same by the limits of the em
---   outcome c      == the papers' number of each answer
 use Rattle.std.specs.Prelude.{not, List}
-use Rattle.answers.specs.Outcome.{Outcome, given, refused, number_of, refuse_if}
+use Rattle.answers.specs.Outcome.{Outcome, given, refuse_if}
 use Rattle.geometry.specs.declared.Point.{Point}
 use Rattle.geometry.specs.Plane.{Disk}
 use Rattle.geometry.specs.declared.Limits.{Limits}
 use Rattle.geometry.specs.EmBox.{em}
 use Rattle.validity.specs.Valid.{valid_in}
 use Rattle.belonging.specs.Belonging.{belongs}
-use Rattle.disk_checks.specs.declared.Checked.{Checked}
-use Rattle.disk_checks.specs.declared.Checked.TheVariants.{Passed, Refused}
 
 abbrev pub check_in : Limits → Disk → List Point → Outcome (Unit {0})
 check_in l d ps = refuse_if (not (valid_in l d ps)) 7 (refuse_if (not (belongs d ps)) 15 (given tt))
 
 abbrev pub check_of : Disk → List Point → Outcome (Unit {0})
 check_of d ps = check_in em d ps
-
-abbrev pub outcome : Checked → Outcome (Unit {0})
-outcome Passed = given tt
-outcome (Refused r) = refused (number_of r)

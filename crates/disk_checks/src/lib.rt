@@ -2,37 +2,34 @@
 #![tactic(auto)]
 
 ghost use Rattle.std.specs.Prelude.{◌≡◌};
+ghost use Rattle.answers.specs.Outcome.{outcome};
 ghost use Rattle.geometry.specs.Plane.{numbers, members};
 ghost use Rattle.geometry.specs.EmBox.{em};
-ghost use Rattle.validity.specs.Narrow.{Narrow, Narrower};
-ghost use Rattle.disk_checks.specs.Checks.{check_in, check_of, outcome};
+ghost use Rattle.validity.specs.Narrow.{Narrower};
+ghost use Rattle.disk_checks.specs.Checks.{check_in, check_of};
 
 use answers::Refusal;
-use geometry::{Disk, Limits, SupportSet};
+use geometry::SupportedDisk;
+use validity::NarrowLimits;
 
-#[derive(Drop)]
-pub enum Checked {
-    Passed,
-    Refused(Refusal),
-}
-
-// Whether a record by the limits l can hold d and t, and then whether the points of t belong to d.
-pub fn check_in(l: Limits, d: Disk, t: SupportSet) -> Checked
-    requires { Narrow l × Narrower l em }
-    ensures { outcome result ≡ check_in l (numbers d) (members t) }
+// Whether a record by the limits l can hold f, and then whether its points belong to its disk.
+pub fn check_in(l: NarrowLimits, f: SupportedDisk) -> Result<(), Refusal>
+    requires { Narrower l.limits em }
+    ensures { outcome result ≡ check_in l.limits (numbers f.disk) (members f.support) }
 {
-    if !validity::is_valid_in(l, d, t) {
-        return Checked::Refused(Refusal::BadRecord);
+    if !validity::is_valid_in(l, f) {
+        return Err(Refusal::BadRecord);
     }
-    if !belonging::belongs(d, t) {
-        return Checked::Refused(Refusal::PointsDoNotFit);
+    if !belonging::belongs(f) {
+        return Err(Refusal::PointsDoNotFit);
     }
-    Checked::Passed
+    Ok(())
 }
 
 // The same by the limits of the em.
-pub fn check(d: Disk, t: SupportSet) -> Checked
-    ensures { outcome result ≡ check_of (numbers d) (members t) }
+pub fn check(f: SupportedDisk) -> Result<(), Refusal>
+    ensures { outcome result ≡ check_of (numbers f.disk) (members f.support) }
 {
-    check_in(geometry::em_limits(), d, t)
+    let limits = geometry::em_limits();
+    check_in(NarrowLimits { limits }, f)
 }

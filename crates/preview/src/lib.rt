@@ -1,38 +1,29 @@
 // The preview of a disk (01: three f64 values): its centre, and its whole radius.
 #![tactic(auto)]
 
-ghost use Rattle.std.specs.Prelude.{◌≡◌, true, ◌≤◌};
+ghost use Rattle.std.specs.Prelude.{◌≡◌, ◌≤◌};
+ghost use Rattle.answers.specs.Outcome.{outcome};
 ghost use Rattle.geometry.specs.Plane.{members, numbers};
-ghost use Rattle.validity.specs.Valid.{valid_disk};
 ghost use Rattle.radius.specs.Radius.{max_radius};
-ghost use Rattle.preview.specs.Preview.{floats, preview_of, outcome};
+ghost use Rattle.preview.specs.Preview.{floats, preview_of};
 
 use answers::Refusal;
-use geometry::{Disk, SupportSet};
-use radius::Radius;
+use geometry::{Disk, SupportedDisk};
+use validity::ValidDisk;
 
-#[derive(Drop)]
+#[derive(Clone, Copy)]
 pub struct Preview {
     pub x: f64,
     pub y: f64,
     pub radius: f64,
 }
 
-#[derive(Drop)]
-pub enum Shown {
-    At(Preview),
-    Refused(Refusal),
-}
-
 // Each number is converted without loss; each centre value is one division, rounded once.
-fn floats_of(d: Disk, r: u64) -> Preview
-    requires d_value { valid_disk (numbers d) ≡ true }
-    requires r_le_max_radius { r ≤ max_radius }
-    ensures { result ≡ floats (numbers d) r }
+fn floats_of(d: ValidDisk, r: u64) -> Preview
+    requires { r ≤ max_radius }
+    ensures { result ≡ floats (numbers d.disk) r }
 {
-    let x = d.x;
-    let y = d.y;
-    let e = d.e;
+    let Disk { x, y, e, .. } = d.disk;
     let scale = e as f64;
     Preview {
         x: (x as f64) / scale,
@@ -41,12 +32,10 @@ fn floats_of(d: Disk, r: u64) -> Preview
     }
 }
 
-// The preview of d, whose support set is t.
-pub fn preview_of(d: Disk, t: SupportSet) -> Shown
-    ensures { outcome result ≡ preview_of (numbers d) (members t) }
+// The preview of f's disk.
+pub fn preview_of(f: SupportedDisk) -> Result<Preview, Refusal>
+    ensures { outcome result ≡ preview_of (numbers f.disk) (members f.support) }
 {
-    match radius::whole_radius(d, t) {
-        Radius::Whole(r) => Shown::At(floats_of(d, r)),
-        Radius::Refused(r) => Shown::Refused(r),
-    }
+    let r = radius::whole_radius(f)?;
+    Ok(floats_of(ValidDisk { disk: f.disk }, r))
 }

@@ -29,7 +29,8 @@ use Rattle.geometry.specs.declared.Limits.{Limits}
 use Rattle.geometry.specs.Plane.{Disk}
 use Rattle.geometry.specs.EmBox.{em, old_em, in_box, largest}
 use Rattle.geometry.proofs.EmBox.{point_size}
-use Rattle.record_writer.specs.Layout.{length_by, point_width, coordinate_width, count_width, s_width, old_s_width, first_at, number_width, second_at, third_at, x_at, y_at}
+use Rattle.record_writer.specs.Layout.{length_by, point_width, coordinate_width, count_width, s_width, old_s_width, number_width}
+use Rattle.record_writer.specs.Layout.{first_at, second_at, third_at, x_at, y_at}
 use Rattle.record_writer.specs.Bytes.{disk_bytes, points_bytes}
 use Rattle.record_reader.specs.Reading.{disk_in, point_in, count_in}
 use Rattle.validity.proofs.ValidLaws.{DiskBounds}

@@ -36,7 +36,8 @@ use Rattle.validity.specs.Valid.{one_to_three, valid_in, valid}
 use Rattle.disk_checks.specs.Checks.{check_in, check_of}
 use Rattle.disk_checks.proofs.CheckLaws.{passed_in, passed, passed_wider}
 use Rattle.point_lists.specs.Rising.{rising}
-use Rattle.record_writer.specs.Layout.{s_width, old_s_width, record_length, old_record_length, length_by, point_width, first_at, second_at, third_at, count_width, count_at}
+use Rattle.record_writer.specs.Layout.{s_width, old_s_width, record_length, old_record_length, length_by, point_width, count_width}
+use Rattle.record_writer.specs.Layout.{first_at, second_at, third_at, count_at}
 use Rattle.record_writer.specs.Bytes.{disk_bytes, points_bytes, made_three, record_by, record_bytes, old_record_bytes}
 use Rattle.record_reader.specs.Reading.{disk_in, point_in, meant, points_in, count_in, held_in, read_by, read_as, read_of}
 use Rattle.validity.proofs.ValidLaws.{DiskBounds, limits, valid-disk, valid-points, counted, rises, boxed}

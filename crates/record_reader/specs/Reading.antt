@@ -9,23 +9,22 @@
 --   held_in l d ps      == the disk and the points, or the refusal due first of them by the limits l
 --   read_by n l bs      == what is answered for a record with an S of n bytes, by the limits l
 --   read_of bs          == what the call answers: the refusal due first, or the disk and the points
---   outcome r          == document 01's number and values of each answer
+--   held f              == the numbers of a disk and its points, as these definitions speak of them
 --
 -- That this is the disk and the points whose record the bytes are, and of no other bytes, is said by proofs/RoundTrip.
 use Rattle.std.specs.Prelude.{Bool, true, false, not, List, [], ◌∷◌, ℕ, ◌+◌, eqb, ℤ, length}
-use Rattle.answers.specs.Outcome.{Outcome, given, refused, number_of, refuse_if, and_then}
+use Rattle.answers.specs.Outcome.{Outcome, given, refuse_if, and_then}
 use Rattle.big_endian.specs.Fields.{get}
 use Rattle.twos_complement.specs.Twos.{back}
 use Rattle.geometry.specs.declared.Point.{Point}
 use Rattle.geometry.specs.declared.Limits.{Limits}
+use Rattle.geometry.specs.declared.SupportedDisk.{SupportedDisk}
 use Rattle.geometry.specs.EmBox.{em, old_em}
 use Rattle.geometry.specs.Plane.{Disk, numbers, members}
 use Rattle.point_lists.specs.Sets.{same}
 use Rattle.disk_checks.specs.Checks.{check_in}
 use Rattle.record_writer.specs.Layout.{number_width, coordinate_width, count_width, s_width, old_s_width, x_at, y_at, e_at, s_at}
 use Rattle.record_writer.specs.Layout.{first_at, second_at, third_at, count_at, length_by, old_record_length}
-use Rattle.record_reader.specs.declared.Record.{Record}
-use Rattle.record_reader.specs.declared.Record.TheVariants.{Read, Refused}
 
 abbrev pub signed_at : ℕ → ℕ → List ℕ → ℤ
 signed_at n at bs = back n (get n 0 at bs)
@@ -68,6 +67,5 @@ read_as false bs = read_by s_width em bs
 abbrev pub read_of : List ℕ → Outcome (Disk × List Point)
 read_of bs = read_as (eqb (length bs) old_record_length) bs
 
-abbrev pub outcome : Record → Outcome (Disk × List Point)
-outcome (Read d t) = given (numbers d, members t)
-outcome (Refused r) = refused (number_of r)
+abbrev pub held : SupportedDisk → Disk × List Point
+held f = (numbers f.disk, members f.support)

@@ -2,25 +2,23 @@
 #![tactic(auto)]
 
 ghost use Rattle.std.specs.Prelude.{◌≡◌, ◌+◌, ◌≤◌, eqb, length};
+ghost use Rattle.answers.specs.Outcome.{outcome_by};
 ghost use Rattle.big_endian.specs.Fields.{get};
 ghost use Rattle.wide_numbers.specs.Value.{value};
 ghost use Rattle.geometry.specs.EmBox.{em};
 ghost use Rattle.geometry.specs.Plane.{numbers, members};
-ghost use Rattle.validity.specs.Narrow.{Narrow, Narrower};
-ghost use Rattle.record_writer.specs.Layout.{coordinate_width, point_width, first_at, length_by};
-ghost use Rattle.record_reader.specs.Reading.{signed_at, disk_in, point_in, meant, points_in, count_in, held_in, read_by, read_of, outcome};
+ghost use Rattle.validity.specs.Narrow.{Narrower};
+ghost use Rattle.record_writer.specs.Layout.{coordinate_width, point_width, s_at, length_by};
+ghost use Rattle.record_reader.specs.Reading.{signed_at, disk_in, point_in, meant, points_in, count_in, held, read_by, read_of};
 ghost use Rattle.record_reader.specs.Widths.{SWidth};
 
 use answers::Refusal;
-use disk_checks::Checked;
-use geometry::{Disk, Limits, Point, SupportSet};
+use geometry::{Disk, Point, SupportSet, SupportedDisk};
+use record_writer::{
+    COORDINATE_WIDTH, COUNT_WIDTH, E_AT, NUMBER_WIDTH, POINT_WIDTH, RECORD_LENGTH, S_AT, X_AT, Y_AT,
+};
+use validity::NarrowLimits;
 use wide_numbers::Wide;
-
-#[derive(Drop)]
-pub enum Record {
-    Read(Disk, SupportSet),
-    Refused(Refusal),
-}
 
 // The bytes of S, and the whole record's length, where the em was 1,000 units.
 const OLD_S_WIDTH: usize = 8;
@@ -29,34 +27,22 @@ const OLD_RECORD_LENGTH: usize = 45;
 
 const S_WIDTH: usize = 16;
 
-// The number of n bytes, 8 to 16: two words, of which the high one has what is above the 8 low bytes.
-fn get_wide(bytes: &[u8], at: usize, n: usize) -> Wide
-    requires { SWidth n × (at + n ≤ length bytes.now) }
-    ensures { value result ≡ get n 0 at bytes.now }
-{
-    let high = n - record_writer::NUMBER_WIDTH;
-    let hi = big_endian::get_at(bytes, at, high);
-    let lo = big_endian::get_at(bytes, at + high, record_writer::NUMBER_WIDTH);
-    Wide { hi, lo }
+// A record: its bytes, of which S has s_width, 8 to 16, so that two words hold it.
+#[derive(Clone, Copy)]
+struct Record<'a> {
+    bytes: &'a [u8],
+    s_width: usize,
+    ghost width: { SWidth s_width },
+    ghost whole: { length bytes.now ≡ length_by s_width },
 }
 
-fn get_disk(bytes: &[u8], n: usize) -> Disk
-    requires { SWidth n × (first_at n ≤ length bytes.now) }
-    ensures { numbers result ≡ disk_in n bytes.now }
-{
-    let x = big_endian::get_signed_at(bytes, record_writer::X_AT, record_writer::NUMBER_WIDTH);
-    let y = big_endian::get_signed_at(bytes, record_writer::Y_AT, record_writer::NUMBER_WIDTH);
-    let e = big_endian::get_at(bytes, record_writer::E_AT, record_writer::NUMBER_WIDTH);
-    let s = get_wide(bytes, record_writer::S_AT, n);
-    Disk { x, y, e, s }
-}
-
+// By its place in the record, as specs/Layout has it.
 fn get_coordinate(bytes: &[u8], at: usize) -> i16
     requires { at + coordinate_width ≤ length bytes.now }
     ensures { result ≡ signed_at coordinate_width at bytes.now }
 {
-    let u = big_endian::get_at(bytes, at, record_writer::COORDINATE_WIDTH);
-    twos_complement::of_bits(u, record_writer::COORDINATE_WIDTH) as i16
+    let u = big_endian::get_at(bytes, at, COORDINATE_WIDTH);
+    twos_complement::of_bits(u, COORDINATE_WIDTH) as i16
 }
 
 fn get_point(bytes: &[u8], at: usize) -> Point
@@ -64,32 +50,22 @@ fn get_point(bytes: &[u8], at: usize) -> Point
     ensures { result ≡ point_in at bytes.now }
 {
     let x = get_coordinate(bytes, at);
-    let y = get_coordinate(bytes, at + record_writer::COORDINATE_WIDTH);
+    let y = get_coordinate(bytes, at + COORDINATE_WIDTH);
     Point { x, y }
 }
 
 // The points that three written ones stand for.
+#[tactic(auto, unfolding(crate::specs::Reading::meant, point_lists::specs::Sets::same))]
 fn without_repeats(a: Point, b: Point, c: Point) -> SupportSet
     ensures { members result ≡ meant a b c }
 {
-    if point_lists::is_same(b, c) {
-        if point_lists::is_same(a, b) {
-            return SupportSet::One(a);
-        }
-        return SupportSet::Two(a, b);
+    if b != c {
+        SupportSet::Three(a, b, c)
+    } else if a != b {
+        SupportSet::Two(a, b)
+    } else {
+        SupportSet::One(a)
     }
-    SupportSet::Three(a, b, c)
-}
-
-fn get_points(bytes: &[u8], n: usize) -> SupportSet
-    requires { SWidth n × (length_by n ≤ length bytes.now) }
-    ensures { members result ≡ points_in n bytes.now }
-{
-    let first = record_writer::S_AT + n;
-    let a = get_point(bytes, first);
-    let b = get_point(bytes, first + 4);
-    let c = get_point(bytes, first + 8);
-    without_repeats(a, b, c)
 }
 
 // How many points there are.
@@ -97,59 +73,90 @@ fn count(t: SupportSet) -> u64
     ensures { result ≡ length (members t) }
 {
     match t {
-        SupportSet::One(_) => 1,
-        SupportSet::Two(_, _) => 2,
-        SupportSet::Three(_, _, _) => 3,
+        SupportSet::One(..) => 1,
+        SupportSet::Two(..) => 2,
+        SupportSet::Three(..) => 3,
     }
 }
 
-// Whether the count at the record's end is that of the points.
-fn count_agrees(bytes: &[u8], n: usize, t: SupportSet) -> bool
-    requires { SWidth n × (length_by n ≤ length bytes.now) }
-    ensures { result ≡ eqb (count_in n bytes.now) (length (members t)) }
-{
-    let written = big_endian::get_at(
-        bytes,
-        record_writer::S_AT + n + 12,
-        record_writer::COUNT_WIDTH,
-    );
-    let meant = count(t);
-    written == meant
-}
-
-// The disk and the support set that were read, where they pass the checks by the limits l.
-fn checked(l: Limits, d: Disk, t: SupportSet) -> Record
-    requires { Narrow l × Narrower l em }
-    ensures { outcome result ≡ held_in l (numbers d) (members t) }
-{
-    match disk_checks::check_in(l, d, t) {
-        Checked::Passed => Record::Read(d, t),
-        Checked::Refused(r) => Record::Refused(r),
+impl Record<'_> {
+    // S: the high word has what is above the 8 low bytes.
+    fn s(&self) -> Wide
+        ensures { value result ≡ get self.now.s_width 0 s_at self.now.bytes.now }
+    {
+        let high = self.s_width - NUMBER_WIDTH;
+        let hi = big_endian::get_at(self.bytes, S_AT, high);
+        let lo = big_endian::get_at(self.bytes, S_AT + high, NUMBER_WIDTH);
+        Wide { hi, lo }
     }
-}
 
-// A record with an S of n bytes, by the limits l.
-fn read_by(bytes: &[u8], n: usize, l: Limits) -> Record
-    requires { SWidth n × (length bytes.now ≡ length_by n) × Narrow l × Narrower l em }
-    ensures { outcome result ≡ read_by n l bytes.now }
-{
-    let d = get_disk(bytes, n);
-    let t = get_points(bytes, n);
-    if count_agrees(bytes, n, t) {
-        return checked(l, d, t);
+    fn disk(&self) -> Disk
+        ensures { numbers result ≡ disk_in self.now.s_width self.now.bytes.now }
+    {
+        let x = big_endian::get_signed_at(self.bytes, X_AT, NUMBER_WIDTH);
+        let y = big_endian::get_signed_at(self.bytes, Y_AT, NUMBER_WIDTH);
+        let e = big_endian::get_at(self.bytes, E_AT, NUMBER_WIDTH);
+        let s = self.s();
+        Disk { x, y, e, s }
     }
-    Record::Refused(Refusal::BadRecord)
+
+    fn support(&self) -> SupportSet
+        ensures { members result ≡ points_in self.now.s_width self.now.bytes.now }
+    {
+        let first = S_AT + self.s_width;
+        let a = get_point(self.bytes, first);
+        let b = get_point(self.bytes, first + POINT_WIDTH);
+        let c = get_point(self.bytes, first + 2 * POINT_WIDTH);
+        without_repeats(a, b, c)
+    }
+
+    // Whether the count at the end is that of the points.
+    fn count_agrees(&self, t: SupportSet) -> bool
+        ensures { result ≡ eqb (count_in self.now.s_width self.now.bytes.now) (length (members t)) }
+    {
+        let at = S_AT + self.s_width + 3 * POINT_WIDTH;
+        let written = big_endian::get_at(self.bytes, at, COUNT_WIDTH);
+        let meant = count(t);
+        written == meant
+    }
+
+    // The disk and the support set, by the limits l.
+    fn read(&self, l: NarrowLimits) -> Result<SupportedDisk, Refusal>
+        requires { Narrower l.limits em }
+        ensures { outcome_by held result ≡ read_by self.now.s_width l.limits self.now.bytes.now }
+    {
+        let disk = self.disk();
+        let support = self.support();
+        if !self.count_agrees(support) {
+            return Err(Refusal::BadRecord);
+        }
+        let f = SupportedDisk { disk, support };
+        disk_checks::check_in(l, f)?;
+        Ok(f)
+    }
 }
 
 // The disk and the support set whose record the bytes are.
-pub fn read_record(bytes: &[u8]) -> Record
-    ensures { outcome result ≡ read_of bytes.now }
+pub fn read_record(bytes: &[u8]) -> Result<SupportedDisk, Refusal>
+    ensures { outcome_by held result ≡ read_of bytes.now }
 {
-    if bytes.len() == OLD_RECORD_LENGTH {
-        return read_by(bytes, OLD_S_WIDTH, geometry::old_em_limits());
+    match bytes.len() {
+        OLD_RECORD_LENGTH => {
+            let limits = geometry::old_em_limits();
+            Record {
+                bytes,
+                s_width: OLD_S_WIDTH,
+            }
+            .read(NarrowLimits { limits })
+        }
+        RECORD_LENGTH => {
+            let limits = geometry::em_limits();
+            Record {
+                bytes,
+                s_width: S_WIDTH,
+            }
+            .read(NarrowLimits { limits })
+        }
+        _ => Err(Refusal::BadRecord),
     }
-    if bytes.len() == record_writer::RECORD_LENGTH {
-        return read_by(bytes, S_WIDTH, geometry::em_limits());
-    }
-    Record::Refused(Refusal::BadRecord)
 }

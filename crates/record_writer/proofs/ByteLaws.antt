@@ -7,6 +7,7 @@
 --   record_long           : the record of a valid disk and its points has its length
 --   three_stored          : three points and a count stored one by one are stored together
 --   record_stored         : the disk, then the points with their count stored are the record in front, and the rest as it was
+--   stores                : the laws of fields written one behind another, for `search`
 use mathlib.Core.Path.{◌≡◌, refl, sym, ap, ap₂, ◌∙◌, subst}
 use mathlib.Core.Bool.{true, true≢false}
 use mathlib.Core.List.{List, [], ◌∷◌, ◌++◌, append-nil, append_assoc}
@@ -26,7 +27,7 @@ use Rattle.validity.specs.Valid.{one_to_three, valid}
 use Rattle.validity.proofs.ValidLaws.{valid-points, counted}
 use Rattle.record_writer.specs.Layout.{record_length, length_by, s_width, first_at, point_width, count_width, x_at, second_at, third_at, count_at}
 use Rattle.record_writer.specs.Bytes.{disk_bytes, point_bytes, points_bytes, made_three, count_bytes, record_by, record_bytes}
-use Rattle.big_endian.proofs.Stores.{sets_append, put_next}
+use Rattle.big_endian.proofs.Stores.{sets_append, put_first, put_next}
 
 pub disk_bytes-length : (n : ℕ) (d : Disk) → length (disk_bytes n d) ≡ first_at n
 disk_bytes-length n d = simp (length-append, bytes_of-length)
@@ -66,7 +67,8 @@ record_long d ps v = record_by-length s_width d ps (counted em ps (valid-points 
 -- ---- stored in a buffer
 
 pub three_stored : (l : List ℕ) (a b c : Point) (n : ℕ)
-    → put count_width n (count_at s_width) (sets (sets (sets l (first_at s_width) (point_bytes a)) (second_at s_width) (point_bytes b)) (third_at s_width) (point_bytes c))
+    → put count_width n (count_at s_width)
+    (sets (sets (sets l (first_at s_width) (point_bytes a)) (second_at s_width) (point_bytes b)) (third_at s_width) (point_bytes c))
     ≡ sets l (first_at s_width) (points_bytes (a ∷ b ∷ c ∷ []) ++ bytes_of count_width n)
 three_stored l a b c n =
     let at = first_at s_width in
@@ -92,3 +94,5 @@ record_stored l d ps h room =
     ∙ ap (sets l x_at) (sym (append_assoc (disk_bytes s_width d) (points_bytes (made_three ps)) (count_bytes ps)))
     ∙ sets-eq (record_bytes d ps) l x_at (subst (λ (n : ℕ). x_at + n ≤ length l) (sym e) room)
     ∙ ap (λ (n : ℕ). record_bytes d ps ++ drop (x_at + n) l) e
+
+pub ruleset stores = (put_first, put_next, bytes_of-length)

@@ -2,16 +2,13 @@
 --
 --   write_of d ps buf       == what the call answers: the refusal due first, or that it is done
 --   buffer_after d ps buf   == the buffer afterwards: the record and the rest as it was, or, refused, all as it was
---   outcome w              == document 01's number of each answer
 use Rattle.std.specs.Prelude.{List, ◌++◌, ℕ, ltb, length, drop}
-use Rattle.answers.specs.Outcome.{Outcome, given, refused, number_of, refuse_if}
+use Rattle.answers.specs.Outcome.{Outcome, given, refused, refuse_if}
 use Rattle.geometry.specs.declared.Point.{Point}
 use Rattle.geometry.specs.Plane.{Disk}
 use Rattle.disk_checks.specs.Checks.{check_of}
 use Rattle.record_writer.specs.Layout.{record_length}
 use Rattle.record_writer.specs.Bytes.{record_bytes}
-use Rattle.record_writer.specs.declared.Written.{Written}
-use Rattle.record_writer.specs.declared.Written.TheVariants.{Done, Refused}
 
 abbrev pub write_of : Disk → List Point → List ℕ → Outcome (Unit {0})
 write_of d ps buf = refuse_if (ltb (length buf) record_length) 8 (check_of d ps)
@@ -23,7 +20,3 @@ left_by (refused n) d ps buf = buf
 
 abbrev pub buffer_after : Disk → List Point → List ℕ → List ℕ
 buffer_after d ps buf = left_by (write_of d ps buf) d ps buf
-
-abbrev pub outcome : Written → Outcome (Unit {0})
-outcome Done = given tt
-outcome (Refused r) = refused (number_of r)

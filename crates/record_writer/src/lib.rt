@@ -3,22 +3,24 @@
 
 ghost use Rattle.std.specs.Prelude.{◌≡◌, [], ◌∷◌, ◌++◌, ◌+◌, ◌≤◌, length};
 ghost use Rattle.std.proofs.lemmas.List.Edits.{sets};
+ghost use Rattle.answers.specs.Outcome.{outcome};
 ghost use Rattle.big_endian.specs.Fields.{bytes_of, put};
 ghost use Rattle.wide_numbers.specs.Value.{value};
 ghost use Rattle.geometry.specs.Plane.{members, numbers};
 ghost use Rattle.record_writer.specs.Layout.{x_at, first_at, point_width, s_width, count_width, record_length};
 ghost use Rattle.record_writer.specs.Bytes.{disk_bytes, point_bytes, points_bytes, made_three, count_bytes};
-ghost use Rattle.record_writer.specs.Writing.{write_of, buffer_after, outcome};
+ghost use Rattle.record_writer.specs.Writing.{write_of, buffer_after};
 
 use answers::Refusal;
-use disk_checks::Checked;
-use geometry::{Disk, Point, SupportSet};
+use geometry::{Disk, Point, SupportSet, SupportedDisk};
 use wide_numbers::Wide;
 
 // Where the fields stand, and how wide they are.
 pub const NUMBER_WIDTH: usize = 8;
 
 pub const COORDINATE_WIDTH: usize = 2;
+
+pub const POINT_WIDTH: usize = 4;
 
 pub const COUNT_WIDTH: usize = 1;
 
@@ -40,12 +42,7 @@ pub const COUNT_AT: usize = 52;
 
 pub const RECORD_LENGTH: usize = 53;
 
-#[derive(Drop)]
-pub enum Written {
-    Done,
-    Refused(Refusal),
-}
-
+// Fields are written by their places in the whole buffer: these are the layout's (01), and specs/Layout, which the claims cite, names them.
 // The two words of a number, the high one first.
 fn put_wide(buf: &mut [u8], at: usize, w: Wide)
     requires { at + s_width ≤ length buf.old }
@@ -60,15 +57,14 @@ fn put_disk(buf: &mut [u8], d: Disk)
     requires { first_at s_width ≤ length buf.old }
     ensures { buf.new ≡ sets buf.old x_at (disk_bytes s_width (numbers d)) }
 {
-    let x = d.x;
-    let y = d.y;
-    big_endian::put_signed_at(buf, X_AT, NUMBER_WIDTH, x);
-    big_endian::put_signed_at(buf, Y_AT, NUMBER_WIDTH, y);
+    big_endian::put_signed_at(buf, X_AT, NUMBER_WIDTH, d.x);
+    big_endian::put_signed_at(buf, Y_AT, NUMBER_WIDTH, d.y);
     big_endian::put_at(buf, E_AT, NUMBER_WIDTH, d.e);
     put_wide(buf, S_AT, d.s);
 }
 
 // x and y.
+#[tactic(auto, using(crate::proofs::ByteLaws::stores))]
 fn put_point(buf: &mut [u8], at: usize, p: Point)
     requires { at + point_width ≤ length buf.old }
     ensures { buf.new ≡ sets buf.old at (point_bytes p) }
@@ -83,6 +79,7 @@ fn put_point(buf: &mut [u8], at: usize, p: Point)
 }
 
 // Three points, and how many of them are meant.
+#[tactic(auto, using(crate::proofs::ByteLaws::three_stored))]
 fn put_three(buf: &mut [u8], a: Point, b: Point, c: Point, n: u64)
     requires { record_length ≤ length buf.old }
     ensures { buf.new ≡ sets buf.old (first_at s_width) (points_bytes (a ∷ b ∷ c ∷ []) ++ bytes_of count_width n) }
@@ -105,20 +102,16 @@ fn put_points(buf: &mut [u8], t: SupportSet)
     }
 }
 
-// Writes the record of d and t to the first bytes of buf and leaves the rest.
-pub fn write_record(d: Disk, t: SupportSet, buf: &mut [u8]) -> Written
-    ensures result_value { outcome result ≡ write_of (numbers d) (members t) buf.old }
-    ensures buf_after { buf.new ≡ buffer_after (numbers d) (members t) buf.old }
+// Writes the record of f to the first bytes of buf and leaves the rest.
+pub fn write_record(f: SupportedDisk, buf: &mut [u8]) -> Result<(), Refusal>
+    ensures result_value { outcome result ≡ write_of (numbers f.disk) (members f.support) buf.old }
+    ensures buf_after { buf.new ≡ buffer_after (numbers f.disk) (members f.support) buf.old }
 {
     if buf.len() < RECORD_LENGTH {
-        return Written::Refused(Refusal::NoRoom);
+        return Err(Refusal::NoRoom);
     }
-    match disk_checks::check(d, t) {
-        Checked::Passed => {
-            put_disk(buf, d);
-            put_points(buf, t);
-            Written::Done
-        }
-        Checked::Refused(r) => Written::Refused(r),
-    }
+    disk_checks::check(f)?;
+    put_disk(buf, f.disk);
+    put_points(buf, f.support);
+    Ok(())
 }

@@ -19,7 +19,8 @@ use lib.ListN.{length, take, drop, length-drop}
 use lib.Seq.{length-take-le}
 use Rattle.answers.specs.Outcome.{Outcome, given, refuse_if, and_then}
 use Rattle.answers.proofs.OutcomeLaws.{not_refused, both_given, given_same}
-use Rattle.directory.specs.Directory.{Place, count, directory_end, pair, pairs, follow, count_of}
+use Rattle.directory.specs.declared.Place.{Place}
+use Rattle.directory.specs.Directory.{count, directory_end, pair, pairs, follow, count_of}
 use Rattle.directory.proofs.Directory.{pairs-step, pairs_done}
 use Rattle.directory.proofs.Rows.{count_known}
 use Rattle.directory.proofs.Follow.{follow-pair}

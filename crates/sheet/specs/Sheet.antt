@@ -2,23 +2,17 @@
 -- keeps: directory/specs/Directory.antt.
 --
 --   glyph_of s k         == where glyph k lies in the sheet s, or the number of the refusal due first
---   outcome r           == the value or the number of 01 that an answer of `glyph` stands for
 --   part_of s start len  == the len bytes of s from start on; none where they do not all lie in s
 --   part_at s k          == the bytes that pair k of the directory names
 --   parts s i n         == the n parts from part i on
 use Rattle.std.specs.Prelude.{Bool, true, false, List, [], map, ℕ, ◌+◌, leb, length, take, drop}
-use Rattle.answers.specs.Outcome.{Outcome, given, refused, refuse_if, and_then, number_of}
-use Rattle.directory.specs.Directory.{Place, pair, pairs, count_of}
-use Rattle.sheet.specs.declared.Opened.{Opened}
-use Rattle.sheet.specs.declared.Opened.TheVariants.{Part, Refused}
+use Rattle.answers.specs.Outcome.{Outcome, given, refuse_if, and_then}
+use Rattle.directory.specs.declared.Place.{Place}
+use Rattle.directory.specs.Directory.{pair, pairs, count_of}
 
 -- "Sheet: 1, 6, 10": the first two are `count_of`'s
 unfoldable pub glyph_of : List ℕ → ℕ → Outcome Place
 glyph_of s k = and_then (count_of s) (λ n. refuse_if (leb n k) 10 (given (pair s k)))
-
-abbrev pub outcome : Opened → Outcome Place
-outcome (Part start len) = given (record { start = start; len = len })
-outcome (Refused r) = refused (number_of r)
 
 abbrev pub pick_list : Bool → List ℕ → List ℕ
 pick_list true a = a

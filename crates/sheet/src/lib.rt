@@ -2,49 +2,32 @@
 #![tactic(auto)]
 
 ghost use Rattle.std.specs.Prelude.{◌≡◌, ◌+◌, ◌*◌, ◌≤◌, length};
-ghost use Rattle.sheet.specs.Sheet.{glyph_of, outcome, part_of, part_at};
+ghost use Rattle.answers.specs.Outcome.{outcome};
+ghost use Rattle.sheet.specs.Sheet.{glyph_of, part_of, part_at};
 
 use answers::Refusal;
-use directory::Counted;
+use directory::Place;
 
-// What asking for a glyph gives.
-#[derive(Drop)]
-pub enum Opened {
-    // Where its part of the sheet lies: the offset of its first byte, and how many bytes it has.
-    Part(usize, usize),
-    Refused(Refusal),
-}
-
-// Glyph k, from 0.
-pub fn glyph(sheet: &[u8], k: usize) -> Opened
+// Where glyph k lies, from 0.
+#[tactic(auto, using(directory::proofs::Rows::count_known))]
+pub fn glyph(sheet: &[u8], k: usize) -> Result<Place, Refusal>
     ensures { outcome result ≡ glyph_of sheet.now k }
 {
-    match directory::count_glyphs(sheet) {
-        Counted::Glyphs(count) => {
-            if count <= k {
-                return Opened::Refused(Refusal::NoGlyph);
-            }
-            let start = directory::number_at(sheet, 2 + 4 * k);
-            let len = directory::number_at(sheet, 4 + 4 * k);
-            Opened::Part(start, len)
-        }
-        Counted::Refused(r) => Opened::Refused(r),
+    let count = directory::count_glyphs(sheet)?;
+    if count <= k {
+        return Err(Refusal::NoGlyph);
     }
+    let place = directory::place_at(sheet, k);
+    Ok(place)
 }
 
-// The len bytes of the sheet from start on, or none where they do not all lie in it. An enum holds no reference, so `glyph` says
-// where a part lies, and this call hands it over.
-pub fn part(sheet: &[u8], start: usize, len: usize) -> &[u8]
-    ensures { result.now ≡ part_of sheet.now start len }
+// The bytes of the sheet at a place, or none where they do not all lie in it.
+pub fn part(sheet: &[u8], place: Place) -> &[u8]
+    ensures { result.now ≡ part_of sheet.now place.start place.len }
 {
-    if start <= sheet.len() {
-        if len <= sheet.len() - start {
-            &sheet[start..start + len]
-        } else {
-            &sheet[..0]
-        }
-    } else {
-        &sheet[..0]
+    match place.start.checked_add(place.len) {
+        Some(end) if end <= sheet.len() => &sheet[place.start..end],
+        _ => &[],
     }
 }
 
@@ -53,7 +36,5 @@ pub fn part_at(sheet: &[u8], k: usize) -> &[u8]
     requires { (6 + 4 * k ≤ length sheet.now) × (k ≤ 65535) }
     ensures { result.now ≡ part_at sheet.now k }
 {
-    let start = directory::number_at(sheet, 2 + 4 * k);
-    let len = directory::number_at(sheet, 4 + 4 * k);
-    part(sheet, start, len)
+    part(sheet, directory::place_at(sheet, k))
 }

@@ -5,7 +5,7 @@
 --   limits                 : a valid disk keeps to them
 --   scale_limits           : those of E
 --   valid-disk, valid-points    : the two halves of `valid_in`
---   members-counted        : a support set has one to three points
+--   members_counted        : a support set has one to three points
 --   counted, rises, boxed       : the three parts of `valid_points_in`
 --   valid-lowest, valid_within  : a valid disk is in lowest terms, and within the limits
 --   lowest_reduced, reduced_lowest : the divisor rule says that no number above 1 divides X, Y and E
@@ -98,10 +98,10 @@ module _ (l : Limits) (ps : List Point) (h : valid_points_in l ps ≡ true) wher
   unfolding valid_points_in
   boxed = rest (rising ps) (all_in_box l ps) (rest (one_to_three ps) (rising ps && all_in_box l ps) h)
 
-pub members-counted : (t : SupportSet) → one_to_three (members t) ≡ true
-members-counted (One a) = refl
-members-counted (Two a b) = refl
-members-counted (Three a b c) = refl
+pub members_counted : (t : SupportSet) → one_to_three (members t) ≡ true
+members_counted (One a) = refl
+members_counted (Two a b) = refl
+members_counted (Three a b c) = refl
 
 -- ---- both
 

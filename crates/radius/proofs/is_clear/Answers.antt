@@ -6,5 +6,5 @@ use Rattle.geometry.specs.Plane.{numbers}
 use Rattle.validity.proofs.ValidLaws.{limits}
 use Rattle.radius.proofs.is_clear.Goals as goal
 
-pub overflow_mul-d : goal.overflow_mul-d
-overflow_mul-d c = let k = limits em (numbers c.args.d) c.requires.d_value in omega (arith, mul-le-mul k.e_small k.e_small)
+pub overflow_mul-e : goal.overflow_mul-e
+overflow_mul-e c = let k = limits em (numbers c.args.d.disk) c.args.d.valid in omega (arith, mul-le-mul k.e_small k.e_small)

@@ -7,13 +7,23 @@ use Rattle.radius.proofs.RadiusLaws.{clears_less, clears_limit, radius_only}
 use Rattle.radius.proofs.least_clear.Goals as goal
 
 pub loop-low-init : goal.loop-low-init
-loop-low-init c = (omega arith, omega arith, clears_limit (numbers c.args.d) (limits em (numbers c.args.d) c.requires), λ k l. absurd (omega arith))
+loop-low-init c = record {
+  ordered = omega arith;
+  limited = omega arith;
+  clear = clears_limit (numbers c.args.d.disk) (limits em (numbers c.args.d.disk) c.args.d.valid);
+  below = λ k l. absurd (omega arith);
+}
 
 pub loop-low-preserved : goal.loop-low-preserved
-loop-low-preserved c =
-    (omega arith, omega arith, c.loop-low.invariant.2, λ k l. clears_less (numbers c.args.d) (omega arith) (sym c.is_clear.ensures ∙ c.if-is_clear.false))
+loop-low-preserved c = record {
+  ordered = omega arith;
+  limited = omega arith;
+  clear = c.loop-low.invariant.clear;
+  below = λ k l. clears_less (numbers c.args.d.disk) (omega arith) (sym c.is_clear.ensures ∙ c.if-is_clear.false);
+}
 
 pub returns : goal.returns
 returns c =
     let at = c.loop-low.invariant in
-    radius_only (numbers c.args.d) (limits em (numbers c.args.d) c.requires).e_some (record { passes = at.2; first = λ k l. at.3 k (omega arith) })
+    radius_only (numbers c.args.d.disk) (limits em (numbers c.args.d.disk) c.args.d.valid).e_some
+    (record { passes = at.clear; first = λ k l. at.below k (omega arith) })

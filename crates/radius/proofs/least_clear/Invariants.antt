@@ -8,7 +8,12 @@ use Rattle.radius.specs.Radius.{clears, max_radius}
 use Rattle.radius.proofs.least_clear.Given as goal
 
 abbrev pub invariant-loop-low : goal.invariant-loop-low
-invariant-loop-low l = (l.low ≤ l.high) × (l.high ≤ max_radius) × (clears (numbers l.d) l.high ≡ true) × ((k : ℕ) → k < l.low → clears (numbers l.d) k ≡ false)
+invariant-loop-low l = record {
+  ordered : l.low ≤ l.high;
+  limited : l.high ≤ max_radius;
+  clear : clears (numbers l.d.disk) l.high ≡ true;
+  below : (k : ℕ) → k < l.low → clears (numbers l.d.disk) k ≡ false;
+}
 
 abbrev pub decreases-loop-low : goal.decreases-loop-low
 decreases-loop-low l = l.high - l.low

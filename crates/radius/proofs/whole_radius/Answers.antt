@@ -6,6 +6,7 @@ use Rattle.validity.proofs.ValidLaws.{valid-disk}
 use Rattle.disk_checks.proofs.CheckLaws.{passed}
 use Rattle.radius.proofs.whole_radius.Goals as goal
 
-pub least_clear-requires : goal.least_clear-requires
-least_clear-requires c =
-    valid-disk em (numbers c.args.d) (members c.args.t) (passed (numbers c.args.d) (members c.args.t) (sym c.in-Passed.ensures)).0
+pub invariant_of-least_clear : goal.invariant_of-least_clear
+invariant_of-least_clear c =
+    let d = numbers c.args.f.disk in
+    let ps = members c.args.f.support in record { valid = valid-disk em d ps (passed d ps (sym c.in_ok-check.ensures)).0 }

@@ -2,11 +2,12 @@
 use mathlib.Core.Path.{◌≡◌, ap, ap₂, ◌∙◌}
 use mathlib.Core.List.{List, ◌++◌}
 use Prim.Native.Nat.{ℕ}
+use borrow.Author.Rules.{rules}
 use lib.ListN.{length-append}
 use lib.IntN.{ℤ}
 use lib.Seq.{sets}
 use mir.Syntax.{w64}
-use mir.Facts.{to_z-of_z}
+use mir.Val.{to_z, of_z}
 use Rattle.record_writer.specs.Layout.{number_width, s_width, x_at, y_at, e_at, s_at}
 use Rattle.big_endian.proofs.ByteLists.{bytes_of-length}
 use Rattle.big_endian.proofs.Stores.{put_first, put_next}
@@ -22,8 +23,8 @@ returns c =
     let x = twos number_width d.x in
     let y = twos number_width d.y in
     let e = d.e in
-    let x_back = to_z-of_z {w = w64} {z = d.x} (record { sfits = c.struct_told-1.given.0.1 }) in
-    let y_back = to_z-of_z {w = w64} {z = d.y} (record { sfits = c.struct_told-2-1.given.1.0.1 }) in
+    let x_back : to_z w64 (of_z w64 d.x) ≡ d.x = search rules in
+    let y_back : to_z w64 (of_z w64 d.y) ≡ d.y = search rules in
     let x-stored : c.put_signed_at.new.buf ≡ sets l x_at (bytes_of number_width x) =
     c.put_signed_at.ensures ∙ ap (λ (z : ℤ). put number_width (twos number_width z) x_at l) x_back ∙ put_first number_width x l x_at in
     let y-stored : c.put_signed_at-2.new.buf ≡ sets l x_at (bytes_of number_width x ++ bytes_of number_width y) =
