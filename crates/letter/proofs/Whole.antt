@@ -5,6 +5,7 @@
 --   named-enclosed     : the engine, given the points that an accepted description names
 --   enclosure_given, enclosure_refused : of these only the loader refuses
 --   enclosure_any      : in any list that is long enough they give the same
+--   enclosure_unloaded : the loader's refusal is theirs
 --   enclosure_checked  : the writer takes what they give
 --   letter-enclosed, letter_unenclosed : the letter is what they give, or their refusal
 --   letter_loaded, letter_unloaded : and so by what the loader answers in a list that is long enough
@@ -13,6 +14,7 @@
 --   letter_short       : a short buffer is refused first
 --   letter_given, letter_refused : in one that is long enough the letter is theirs
 --   letter_written     : the buffer as the writer leaves it
+--   write_due          : and it has no refusal
 use mathlib.Core.Path.{◌≡◌, refl, sym, ap, ◌∙◌, subst}
 use mathlib.Core.Bool.{true}
 use mathlib.Core.List.{List}
@@ -101,6 +103,9 @@ enclosure_any text list long = by_load (load_of text list) refl
     by_load (given n) e = enclosure_given text list n e ∙ sym (enclosure_given text room n (sym same ∙ e))
     by_load (refused k) e = enclosure_refused text list k e ∙ sym (enclosure_refused text room k (sym same ∙ e))
 
+pub enclosure_unloaded : (text : List ℕ) (list : List ℤ) (k : ℕ) → 8192 ≤ length list → load_of text list ≡ refused k → enclosure_of text ≡ refused k
+enclosure_unloaded text list k long h = sym (enclosure_any text list long) ∙ enclosure_refused text list k h
+
 -- ---- the letter, by what loader and engine give
 
 module _ (text : List ℕ) where
@@ -117,7 +122,7 @@ module _ (text : List ℕ) where
     letter_loaded n h = letter-enclosed (enclosure (named text)) (sym (enclosure_any text list long) ∙ enclosure_given text list n h)
 
     pub letter_unloaded : (k : ℕ) → load_of text list ≡ refused k → letter_of text ≡ refused k
-    letter_unloaded k h = letter_unenclosed k (sym (enclosure_any text list long) ∙ enclosure_refused text list k h)
+    letter_unloaded k h = letter_unenclosed k (enclosure_unloaded text list k long h)
 
   pub letter-named : (g : Letter) → letter_of text ≡ given g → g ≡ letter (enclosure (named text))
   letter-named g h = by_load (load_of text room) refl
@@ -147,3 +152,6 @@ module _ (text buf : List ℕ) where
 
     pub letter_written : (e : Enclosure) → enclosure_of text ≡ given e → writing.buffer_after e.disk e.support buf ≡ buffer_after (given (letter e)) buf
     letter_written e h = rw (le-ltb (length buf) record_length enough, enclosure_checked text _ e h)
+
+    pub write_due : (e : Enclosure) → enclosure_of text ≡ given e → writing.write_of e.disk e.support buf ≡ given tt
+    write_due e h = rw (le-ltb (length buf) record_length enough, enclosure_checked text _ e h)

@@ -8,17 +8,14 @@
 --   letter_in text buf       == the same, its record to be written into buf: 8 first, where the buffer lacks room for a record
 --   tests_in o               == the tests of the letter, or the refusal
 --   buffer_after o buf       == the buffer afterwards: the record and the rest as it was, or, refused, all as it was
---   outcome r               == the tests, or document 01's number of the refusal, of an answer r
 --
 -- proofs/Whole: only the loader refuses, and the writer takes what the engine gives.
 use Rattle.std.specs.Prelude.{List, ◌++◌, ℕ, ◌*◌, ltb, ℤ, length, take, drop}
-use Rattle.answers.specs.Outcome.{Outcome, given, refused, number_of, refuse_if, and_then}
+use Rattle.answers.specs.Outcome.{Outcome, given, refused, refuse_if, and_then}
 use Rattle.description.specs.Description.{load_of, room, list_after}
 use Rattle.engine.specs.Engine.{Enclosure, enclose_of}
 use Rattle.record_writer.specs.Layout.{record_length}
 use Rattle.record_writer.specs.Bytes.{record_bytes}
-use Rattle.letter.specs.declared.Worked.{Worked}
-use Rattle.letter.specs.declared.Worked.TheVariants.{Done, Refused}
 
 unfoldable pub enclosure_in : List ℕ → List ℤ → Outcome Enclosure
 enclosure_in text list = and_then (load_of text list) (λ n. enclose_of (take (2 * n) (list_after text list)))
@@ -45,7 +42,3 @@ tests_in o = and_then o (λ g. given g.tests)
 abbrev pub buffer_after : Outcome Letter → List ℕ → List ℕ
 buffer_after (given g) buf = g.bytes ++ drop record_length buf
 buffer_after (refused n) buf = buf
-
-abbrev pub outcome : Worked → Outcome ℕ
-outcome (Done n) = given n
-outcome (Refused r) = refused (number_of r)

@@ -3,53 +3,42 @@
 #![tactic(auto)]
 
 ghost use Rattle.std.specs.Prelude.{◌≡◌, ◌≤◌, length};
-ghost use Rattle.engine.specs.Engine as engine;
-ghost use Rattle.letter.specs.Letter.{enclosure_of, letter_in, tests_in, buffer_after, outcome};
+ghost use Rattle.answers.specs.Outcome.{outcome, outcome_by};
+ghost use Rattle.engine.specs.Engine.{enclosure_told};
+ghost use Rattle.letter.specs.Letter.{enclosure_of, letter_in, tests_in, buffer_after};
 
 use answers::Refusal;
-use description::Loaded;
 use engine::Enclosed;
 
-#[derive(Drop)]
-pub enum Worked {
-    // How many tests the procedure made.
-    Done(u64),
-    Refused(Refusal),
-}
-
 // The smallest disk of a description's points, which are put into the list; it is as good a list whatever it holds.
-pub fn enclose_in(text: &[u8], list: &mut [i16]) -> Enclosed
+#[tactic(auto, using(crate::proofs::Whole::enclosure_unloaded))]
+pub fn enclose_in(text: &[u8], list: &mut [i16]) -> Result<Enclosed, Refusal>
     requires { 8192 ≤ length list.old }
-    ensures { engine.outcome result ≡ enclosure_of text.now }
+    ensures { outcome_by enclosure_told result ≡ enclosure_of text.now }
 {
-    match description::load_into(text, list) {
-        Loaded::Points(n) => engine::smallest_disk(&mut list[..2 * n]),
-        Loaded::Refused(r) => Enclosed::Refused(r),
-    }
+    let n = description::load_into(text, list)?;
+    engine::smallest_disk(&mut list[..2 * n])
 }
 
 // The same in a list of its own.
-pub fn enclose(text: &[u8]) -> Enclosed
-    ensures { engine.outcome result ≡ enclosure_of text.now }
+pub fn enclose(text: &[u8]) -> Result<Enclosed, Refusal>
+    ensures { outcome_by enclosure_told result ≡ enclosure_of text.now }
 {
     let mut list = [0i16; 8192];
     enclose_in(text, &mut list)
 }
 
-// Works a description out and writes its record at the front of buf. The writer takes whatever the engine gives, so its answer is not
-// looked at (proofs/Whole: `enclosure_checked`).
-pub fn work(text: &[u8], buf: &mut [u8]) -> Worked
+// Works a description out and writes its record at the front of buf; the answer is how many tests the procedure made. The writer
+// takes whatever the engine gives (proofs/Whole: `enclosure_checked`).
+#[tactic(auto, using(crate::proofs::Whole::letter_short, crate::proofs::Whole::letter_refused))]
+pub fn work(text: &[u8], buf: &mut [u8]) -> Result<u64, Refusal>
     ensures result_value { outcome result ≡ tests_in (letter_in text.now buf.old) }
     ensures buf_after { buf.new ≡ buffer_after (letter_in text.now buf.old) buf.old }
 {
     if buf.len() < record_writer::RECORD_LENGTH {
-        return Worked::Refused(Refusal::NoRoom);
+        return Err(Refusal::NoRoom);
     }
-    match enclose(text) {
-        Enclosed::Found(d, t, tests) => {
-            record_writer::write_record(d, t, buf);
-            Worked::Done(tests)
-        }
-        Enclosed::Refused(r) => Worked::Refused(r),
-    }
+    let enclosed = enclose(text)?;
+    record_writer::write_record(enclosed.found, buf)?;
+    Ok(enclosed.tests)
 }

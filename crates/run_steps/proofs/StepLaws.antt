@@ -4,9 +4,9 @@
 --   Long o           == a letter's record has its length
 --   step_long        : a record's bytes are added for each glyph that is worked
 --   step_most        : at most one glyph is
---   stepped_letter, stepped_going, stepped_number : the same glyph, state and number, written otherwise
---   stepped_worked, stepped_over, stepped_faulty, stepped_behind : the four ends that a glyph can come to
-use mathlib.Core.Path.{◌≡◌, refl, sym, ap, ◌∙◌, subst}
+--   stepped_worked, stepped_over, stepped_behind, stepped_faulty : the four ends that a glyph can come to
+--   stepped_letter   : the same glyph, written otherwise
+use mathlib.Core.Path.{◌≡◌, refl, sym, ap, subst}
 use mathlib.Core.Bool.{Bool, true, false, ◌&&◌}
 use mathlib.Core.List.{List, [], ◌∷◌, ◌++◌, append-nil}
 use Prim.Native.Nat.{ℕ, ◌+◌, ◌-◌, ◌*◌, ◌≤◌, ◌<◌}
@@ -14,11 +14,14 @@ use native.Mathlib.Omega.{arith}
 use borrow.Author.Tests.{le-leb, lt-leb}
 use lib.Dec.{leb}
 use lib.ListN.{length}
-use Rattle.answers.specs.Outcome.{Outcome, given, refused}
+use Rattle.std.specs.Prelude.{Result, Ok, Err}
+use Rattle.answers.specs.declared.Refusal.{Refusal}
+use Rattle.answers.specs.declared.Refusal.TheVariants.{NotAllowed}
+use Rattle.answers.specs.Outcome.{Outcome, given, refused, outcome}
 use Rattle.record_writer.specs.Layout.{record_length}
 use Rattle.letter.specs.Letter.{Letter}
 use Rattle.run_steps.specs.Steps.{State, tried, step}
-use Rattle.run_steps.specs.Inner.{placed, bare, Stepped}
+use Rattle.run_steps.specs.Inner.{placed, number_for, bare, Stepped}
 use Rattle.run_steps.specs.declared.Standing.{Standing}
 use Rattle.run_steps.proofs.Placing.{placed_none}
 
@@ -67,44 +70,39 @@ module _ (l : ℕ) (b : Bool) (w : ℕ) where
 stay : (w : ℕ) (before : List ℕ) → before ≡ placed (record_length * w) [] before
 stay w before = sym (placed_none (record_length * w) before)
 
-module _ (g : Letter) (l w : ℕ) (before : List ℕ) where
-  pub stepped_worked : (after : List ℕ) → g.tests ≤ l → after ≡ placed (record_length * w) g.bytes before
-      → Stepped (given g) l true w before after (record { left = l - g.tests; going = true; worked = w + 1; number = 0 })
+module _ (g : Letter) (s : Standing) (before : List ℕ) where
+  pub stepped_worked : (left : ℕ) (after : List ℕ) → s.going ≡ true → g.tests ≤ s.left → left ≡ s.left - g.tests
+      → after ≡ placed (record_length * s.worked) g.bytes before
+      → Stepped (given g) s before (record { left = left; going = s.going; worked = s.worked + 1 }) after (Ok tt)
   unfolding step tried
-  stepped_worked after h e =
-      let enough = le-leb g.tests l h in
-      record { left_is = rw enough; going_is = rw enough; worked_is = rw enough; number_is = rw enough; after_is = rw enough e }
+  stepped_worked left after go h l e =
+      let enough = le-leb g.tests s.left h in
+      record { left_is = rw (go, enough) l; going_is = rw (go, enough); worked_is = rw (go, enough); number_is = rw (go, enough); after_is = rw (go, enough) e }
 
-  pub stepped_over : l < g.tests → Stepped (given g) l true w before before (record { left = l; going = false; worked = w; number = 16 })
+  pub stepped_over : s.going ≡ true → s.left < g.tests
+      → Stepped (given g) s before (record { left = s.left; going = false; worked = s.worked }) before (Err NotAllowed)
   unfolding step tried
-  stepped_over h =
-      let short = lt-leb g.tests l h in
-      record { left_is = rw short; going_is = rw short; worked_is = rw short; number_is = rw short; after_is = rw short (stay w before) }
+  stepped_over go h =
+      let short = lt-leb g.tests s.left h in
+      record {
+        left_is = rw (go, short);
+        going_is = rw (go, short);
+        worked_is = rw (go, short);
+        number_is = rw (go, short);
+        after_is = rw (go, short) (stay s.worked before);
+      }
 
-  pub stepped_behind : Stepped (given g) l false w before before (record { left = l; going = false; worked = w; number = 16 })
+  pub stepped_behind : s.going ≡ false → Stepped (given g) s before s before (Err NotAllowed)
   unfolding step tried
-  stepped_behind = record { left_is = refl; going_is = refl; worked_is = refl; number_is = refl; after_is = stay w before }
+  stepped_behind off = record { left_is = rw off; going_is = rw off; worked_is = rw off; number_is = rw off; after_is = rw off (stay s.worked before) }
 
-pub stepped_faulty : (n l : ℕ) (b : Bool) (w : ℕ) (before : List ℕ)
-    → Stepped (refused n) l b w before before (record { left = l; going = b; worked = w; number = n })
+pub stepped_faulty : (k : ℕ) (s : Standing) (before : List ℕ) (a : Result (Unit {0}) Refusal) → outcome a ≡ refused k
+    → Stepped (refused k) s before s before a
 unfolding step
-stepped_faulty n l b w before = record { left_is = refl; going_is = refl; worked_is = refl; number_is = refl; after_is = stay w before }
+stepped_faulty k s before a e =
+    record { left_is = refl; going_is = refl; worked_is = refl; number_is = ap (λ (o : Outcome (Unit {0})). number_for o ∷ []) e; after_is = stay s.worked before }
 
--- ---- the same glyph and the same state, written otherwise
-
-module _ {l w : ℕ} {before after : List ℕ} {r : Standing} where
-  pub stepped_letter : {o p : Outcome Letter} {b : Bool} → p ≡ o → Stepped o l b w before after r → Stepped p l b w before after r
-  stepped_letter {o} {p} {b} e h = subst (λ (q : Outcome Letter). Stepped q l b w before after r) (sym e) h
-
-  pub stepped_going : {o : Outcome Letter} {a b : Bool} → b ≡ a → Stepped o l a w before after r → Stepped o l b w before after r
-  stepped_going {o} e h = subst (λ (g : Bool). Stepped o l g w before after r) (sym e) h
-
-  pub stepped_number : {o : Outcome Letter} {b : Bool} (n : ℕ) → n ≡ r.number → Stepped o l b w before after r
-      → Stepped o l b w before after (record { left = r.left; going = r.going; worked = r.worked; number = n })
-  stepped_number n e h = record {
-    left_is = h.left_is;
-    going_is = h.going_is;
-    worked_is = h.worked_is;
-    number_is = ap (λ (k : ℕ). k ∷ []) e ∙ h.number_is;
-    after_is = h.after_is;
-  }
+-- the same glyph, written otherwise
+pub stepped_letter : {o p : Outcome Letter} {s : Standing} {before : List ℕ} {r : Standing} {after : List ℕ} {a : Result (Unit {0}) Refusal}
+    → p ≡ o → Stepped o s before r after a → Stepped p s before r after a
+stepped_letter {s = s} {before = before} {r = r} {after = after} {a = a} e h = subst (λ (q : Outcome Letter). Stepped q s before r after a) (sym e) h

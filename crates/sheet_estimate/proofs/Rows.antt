@@ -1,11 +1,12 @@
 -- The row of checks of `estimate_of`, one law for each end it can come to.
 --
 --   estimate_refused  : a sheet's own refusal, 1 or 6
---   estimate_no_points, estimate_no_refusals : 8 for the first list, 8 for the second
+--   estimate_no_points, estimate_no_refusals, estimate_no_room : 8 for the first list, 8 for the second, 8 for either
 --   estimate_given    : else the estimate
 --   estimate_is       : an estimate that is not refused is this, of a sheet that keeps the rules
 --   estimate_told     : the answer and the lists, by what the estimate comes to
 use mathlib.Core.Path.{◌≡◌, sym, ap}
+use mathlib.Core.Logic.{◌⊎◌, inl, inr}
 use mathlib.Core.List.{List}
 use Prim.Native.Nat.{ℕ, ◌≤◌, ◌<◌}
 use borrow.Author.Tests.{lt-ltb, le-ltb}
@@ -34,6 +35,11 @@ module _ (s ps rs : List ℕ) where
       pub estimate_given : n ≤ length rs → estimate_of s ps rs ≡ given (estimated s n)
       unfolding estimate_of
       estimate_given h = rw (counts, le-ltb (length ps) n room, le-ltb (length rs) n h)
+
+    -- as the code tests it
+    pub estimate_no_room : (length ps < n) ⊎ ((n ≤ length ps) × (length rs < n)) → estimate_of s ps rs ≡ refused 8
+    estimate_no_room (inl h) = estimate_no_points h
+    estimate_no_room (inr h) = estimate_no_refusals h.0 h.1
 
   pub estimate_is : (e : Estimate) → estimate_of s ps rs ≡ given e
       → (n : ℕ) × ((count_of s ≡ given n) × (e ≡ estimated s n))

@@ -7,24 +7,22 @@
 --   Told              == both lists and both sums of an estimate behind i glyphs
 --   told_next         == it holds behind one more glyph
 --   told_answer, told_points, told_refusals : behind the last glyph all is as estimated
-use mathlib.Core.Path.{◌≡◌, sym, ap, ap₂, ◌∙◌, subst}
+use mathlib.Core.Path.{◌≡◌, sym, ap, ap₂, ◌∙◌, subst, subst₂}
 use mathlib.Core.List.{List, [], ◌∷◌, ◌++◌, map, append-nil, append_assoc}
 use Prim.Native.Nat.{ℕ, ◌+◌, ◌-◌, ◌*◌, ◌≤◌, ◌<◌}
-use native.Mathlib.Nat.{mul-add}
+use native.Mathlib.Nat.{mul-add, add-zero}
 use native.Mathlib.Numerals.{add-one}
 use native.Mathlib.Omega.{arith}
 use lib.ListN.{length, take, drop, set, length-set}
 use lib.Seq.{take-suc-set, drop-set-lt}
-use Rattle.answers.specs.Outcome.{Outcome, given}
+use Rattle.answers.specs.Outcome.{Outcome, given, refused}
 use Rattle.answers.specs.Lent.{front_put}
 use Rattle.answers.proofs.LentLaws.{front_kept, behind_stays}
 use Rattle.description.specs.Description.{load_of, room}
 use Rattle.sheet.specs.Sheet.{part_at, parts}
 use Rattle.sheet.proofs.Parts.{parts_next, parts_done}
 use Rattle.record_writer.specs.Layout.{record_length}
-use Rattle.sheet_estimate.specs.Estimating.{loads, points_of, refusal_of, bytes_for, tests_for, sum, estimated, answer_of}
-use Rattle.sheet_estimate.specs.Shares.{share_of}
-use Rattle.sheet_estimate.specs.declared.Share.{Share}
+use Rattle.sheet_estimate.specs.Estimating.{loads, points_of, refusal_of, bytes_for, most_tests, tests_for, sum, estimated, answer_of}
 use Rattle.sheet_estimate.proofs.Sums.{most, tests_few, bytes_few}
 
 abbrev load : List ℕ → Outcome ℕ
@@ -105,25 +103,31 @@ pub record Told (s : List ℕ) (n : ℕ) (ps₀ rs₀ ps rs : List ℕ) (bytes t
   pub bytes_told : Summed bytes_for s n record_length bytes i
   pub tests_told : Summed tests_for s n most tests i
 
--- what a glyph adds is small
-pub share_bytes : (text : List ℕ) {r : Share} → r ≡ share_of (load text) → r.bytes ≤ record_length
-share_bytes text e = subst (λ (x : Share). x.bytes ≤ record_length) (sym e) (bytes_few (load text))
-
-pub share_tests : (text : List ℕ) {r : Share} → r ≡ share_of (load text) → r.tests ≤ most
-share_tests text e = subst (λ (x : Share). x.tests ≤ most) (sym e) (tests_few text)
-
 module _ {s : List ℕ} {n : ℕ} {ps₀ rs₀ ps rs : List ℕ} {bytes tests i : ℕ} (z : Told s n ps₀ rs₀ ps rs bytes tests i) where
-  pub told_next : (r : Share) → i < n → n ≤ length ps₀ → n ≤ length rs₀ → r ≡ share_of (load_at s i)
-      → Told s n ps₀ rs₀ (set ps i r.points) (set rs i r.refusal) (bytes + r.bytes) (tests + r.tests) (i + 1)
-  told_next r below points_room refusals_room e =
-      let text = part_at s i in
+  told_next : (p k b t : ℕ) → i < n → n ≤ length ps₀ → n ≤ length rs₀
+      → p ≡ points_of (load_at s i) → k ≡ refusal_of (load_at s i) → b ≡ bytes_for (load_at s i) → t ≡ tests_for (load_at s i)
+      → Told s n ps₀ rs₀ (set ps i p) (set rs i k) (bytes + b) (tests + t) (i + 1)
+  told_next p k b t below points_room refusals_room p_is k_is b_is t_is =
       record {
         within = omega arith;
-        points_told = noted_next points_of s n z.points_told r.points below points_room (ap (λ (x : Share). x.points) e);
-        refusals_told = noted_next refusal_of s n z.refusals_told r.refusal below refusals_room (ap (λ (x : Share). x.refusal) e);
-        bytes_told = summed_next bytes_for s n record_length z.bytes_told r.bytes below (share_bytes text e) (ap (λ (x : Share). x.bytes) e);
-        tests_told = summed_next tests_for s n most z.tests_told r.tests below (share_tests text e) (ap (λ (x : Share). x.tests) e);
+        points_told = noted_next points_of s n z.points_told p below points_room p_is;
+        refusals_told = noted_next refusal_of s n z.refusals_told k below refusals_room k_is;
+        bytes_told =
+            summed_next bytes_for s n record_length z.bytes_told b below (subst (λ (x : ℕ). x ≤ record_length) (sym b_is) (bytes_few (load_at s i))) b_is;
+        tests_told = summed_next tests_for s n most z.tests_told t below (subst (λ (x : ℕ). x ≤ most) (sym t_is) (tests_few (part_at s i))) t_is;
       }
+
+  pub told_taken : (m : ℕ) → i < n → n ≤ length ps₀ → n ≤ length rs₀ → load_at s i ≡ given m
+      → Told s n ps₀ rs₀ (set ps i m) (set rs i 0) (bytes + record_length) (tests + most_tests m) (i + 1)
+  told_taken m below points_room refusals_room e =
+      told_next m 0 record_length (most_tests m) below points_room refusals_room
+      (sym (ap points_of e)) (sym (ap refusal_of e)) (sym (ap bytes_for e)) (sym (ap tests_for e))
+
+  pub told_faulty : (k : ℕ) → i < n → n ≤ length ps₀ → n ≤ length rs₀ → load_at s i ≡ refused k
+      → Told s n ps₀ rs₀ (set ps i 0) (set rs i k) bytes tests (i + 1)
+  told_faulty k below points_room refusals_room e =
+      subst₂ (λ (b t : ℕ). Told s n ps₀ rs₀ (set ps i 0) (set rs i k) b t (i + 1)) (add-zero bytes) (add-zero tests)
+      (told_next 0 k 0 0 below points_room refusals_room (sym (ap points_of e)) (sym (ap refusal_of e)) (sym (ap bytes_for e)) (sym (ap tests_for e)))
 
   module _ (over : n ≤ i) where
     pub told_answer : given (bytes, tests) ≡ answer_of (given (estimated s n))

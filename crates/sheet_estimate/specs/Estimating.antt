@@ -13,16 +13,15 @@
 --   answer_of o        == the bytes and the tests
 --   points_by o ps, refusals_by o rs == what an estimate that comes to o leaves in the lists; refused, what was there
 --   points_after s ps rs, refusals_after s ps rs == the lists afterwards
---   outcome r         == the answer r as its two numbers, or its refusal's
+--   told e             == the two numbers of the call's value e
 use Rattle.std.specs.Prelude.{List, [], ◌∷◌, map, ℕ, ◌+◌, ◌*◌, ◌/◌, ltb, length}
-use Rattle.answers.specs.Outcome.{Outcome, given, refused, number_of, refuse_if, and_then}
+use Rattle.answers.specs.Outcome.{Outcome, given, refused, refuse_if, and_then}
 use Rattle.answers.specs.Lent.{front_put}
 use Rattle.description.specs.Description.{load_of, room}
 use Rattle.directory.specs.Directory.{count_of}
 use Rattle.sheet.specs.Sheet.{parts}
 use Rattle.record_writer.specs.Layout.{record_length}
-use Rattle.sheet_estimate.specs.declared.Estimated.{Estimated}
-use Rattle.sheet_estimate.specs.declared.Estimated.TheVariants.{Takes, Refused}
+use Rattle.sheet_estimate.specs.declared.Estimate.{Estimate as CallEstimate}
 
 abbrev pub loads : List ℕ → ℕ → List (Outcome ℕ)
 loads s n = map (λ (d : List ℕ). load_of d room) (parts s 0 n)
@@ -91,6 +90,5 @@ points_after s ps rs = points_by (estimate_of s ps rs) ps
 abbrev pub refusals_after : List ℕ → List ℕ → List ℕ → List ℕ
 refusals_after s ps rs = refusals_by (estimate_of s ps rs) rs
 
-abbrev pub outcome : Estimated → Outcome (ℕ × ℕ)
-outcome (Takes bytes tests) = given (bytes, tests)
-outcome (Refused r) = refused (number_of r)
+abbrev pub told : CallEstimate → ℕ × ℕ
+told e = (e.bytes, e.tests)

@@ -1,3 +1,3 @@
 pub mod Estimating
--- of inner contracts
-pub mod Shares
+-- of the inner contract
+pub mod Listed

@@ -1,12 +1,13 @@
 -- The row of checks of `run_of`, one law for each end it can come to.
 --
 --   run_refused       : a sheet's own refusal, 1 or 6
---   run_no_room, run_no_place : 8 for the buffer, 8 for the list
+--   run_no_room, run_no_place, run_no_room_for : 8 for the buffer, 8 for the list, 8 for either
 --   run_too_much      : 17 for the allowance
 --   run_given         : else the run
 --   run_is            : a run that is not refused is this, of a sheet that keeps the rules
 --   run_told          : the answer, the buffer and the list, by what the run comes to
 use mathlib.Core.Path.{◌≡◌, sym, ap}
+use mathlib.Core.Logic.{◌⊎◌, inl, inr}
 use mathlib.Core.List.{List}
 use Prim.Native.Nat.{ℕ, ◌*◌, ◌^◌, ◌≤◌, ◌<◌}
 use borrow.Author.Tests.{lt-ltb, le-ltb, lt-leb, le-leb}
@@ -42,6 +43,11 @@ module _ (s : List ℕ) (t : ℕ) (b ns : List ℕ) where
         pub run_given : t < 2 ^ 60 → run_of s t b ns ≡ given (ran s t)
         unfolding run_of
         run_given h = rw (counts, le-ltb (length b) (record_length * n) room, le-ltb (length ns) n places, lt-leb (2 ^ 60) t h)
+
+    -- as the code tests it
+    pub run_no_room_for : (length b < record_length * n) ⊎ ((record_length * n ≤ length b) × (length ns < n)) → run_of s t b ns ≡ refused 8
+    run_no_room_for (inl h) = run_no_room h
+    run_no_room_for (inr h) = run_no_place h.0 h.1
 
   pub run_is : (r : State) → run_of s t b ns ≡ given r → (n : ℕ) × ((count_of s ≡ given n) × (r ≡ ran s t))
   unfolding run_of

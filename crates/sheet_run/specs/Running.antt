@@ -7,17 +7,16 @@
 --   answer_of o       == how many were worked, and what is left of the allowance
 --   buffer_by o b, numbers_by o ns == what a run that comes to o leaves in the buffer and in the list; refused, what was there
 --   buffer_after s t b ns, numbers_after s t b ns == the buffer and the list afterwards
---   outcome r        == the answer r as its two numbers, or its refusal's
+--   told w          == the two numbers of the call's value w
 use Rattle.std.specs.Prelude.{List, map, ℕ, ◌*◌, ◌^◌, leb, ltb, length}
-use Rattle.answers.specs.Outcome.{Outcome, given, refused, number_of, refuse_if, and_then}
+use Rattle.answers.specs.Outcome.{Outcome, given, refused, refuse_if, and_then}
 use Rattle.answers.specs.Lent.{front_put}
 use Rattle.directory.specs.Directory.{count, count_of}
 use Rattle.sheet.specs.Sheet.{parts}
 use Rattle.record_writer.specs.Layout.{record_length}
 use Rattle.letter.specs.Letter.{Letter, letter_of}
 use Rattle.run_steps.specs.Steps.{State, start, pass}
-use Rattle.sheet_run.specs.declared.Ran.{Ran}
-use Rattle.sheet_run.specs.declared.Ran.TheVariants.{Done, Refused}
+use Rattle.sheet_run.specs.declared.Worked.{Worked}
 
 unfoldable pub letters : List ℕ → ℕ → ℕ → List (Outcome Letter)
 letters s i n = map letter_of (parts s i n)
@@ -53,6 +52,5 @@ buffer_after s t b ns = buffer_by (run_of s t b ns) b
 abbrev pub numbers_after : List ℕ → ℕ → List ℕ → List ℕ → List ℕ
 numbers_after s t b ns = numbers_by (run_of s t b ns) ns
 
-abbrev pub outcome : Ran → Outcome (ℕ × ℕ)
-outcome (Done worked left) = given (worked, left)
-outcome (Refused r) = refused (number_of r)
+abbrev pub told : Worked → ℕ × ℕ
+told w = (w.worked, w.left)
