@@ -7,9 +7,9 @@ ghost use Rattle.c_load.specs.Answer.{load_answer};
 ghost use Rattle.c_append.specs.Kind.{point_of};
 
 use c_load::LoadAnswer;
-use drawn_points::{Appended, DrawnPoint};
+use drawn_points::DrawnPoint;
 
-// The whole numbers count where the kind is 1, the floats where it is 2.
+// The whole numbers count where the kind is 1, the floats where it is 2. No enum crosses to C: include/volkhidar.h has `kind` (volkhidar_append_point).
 #[repr(C)]
 #[derive(Drop)]
 pub struct KindAndValues {
@@ -21,18 +21,16 @@ pub struct KindAndValues {
 }
 
 // A kind that is neither stands for no number: two NaNs.
-fn point_of(p: KindAndValues) -> DrawnPoint
-    ensures { result ≡ point_of p }
-{
-    let kind = p.kind;
-    if kind == 1 {
-        return DrawnPoint::Whole(p.whole_x, p.whole_y);
+impl From<KindAndValues> for DrawnPoint {
+    ghost from_gives = { λ p q. q ≡ point_of p };
+
+    fn from(p: KindAndValues) -> DrawnPoint {
+        match p.kind {
+            1 => DrawnPoint::Whole(p.whole_x, p.whole_y),
+            2 => DrawnPoint::Drawn(p.drawn_x, p.drawn_y),
+            _ => DrawnPoint::Drawn(f64::NAN, f64::NAN),
+        }
     }
-    if kind == 2 {
-        return DrawnPoint::Drawn(p.drawn_x, p.drawn_y);
-    }
-    let nan = 0.0 / 0.0;
-    DrawnPoint::Drawn(nan, nan)
 }
 
 // The answer is the loader's: a refusal and a count.
@@ -40,15 +38,5 @@ pub fn append_point(p: KindAndValues, list: &mut [i16], n: usize) -> LoadAnswer
     ensures value { result ≡ load_answer (append_of (point_of p) list.old n) }
     ensures list_after { list.new ≡ list_after (point_of p) list.old n }
 {
-    let appended = drawn_points::append_point(point_of(p), list, n);
-    match appended {
-        Appended::Points(count) => LoadAnswer {
-            refusal: 0,
-            count: count as u64,
-        },
-        Appended::Refused(r) => LoadAnswer {
-            refusal: c_types::code(r),
-            count: 0,
-        },
-    }
+    LoadAnswer::from(drawn_points::append_point(DrawnPoint::from(p), list, n))
 }

@@ -2,14 +2,16 @@
 #![tactic(auto)]
 
 ghost use Rattle.std.specs.Prelude.{◌≡◌};
-ghost use Rattle.answers.specs.Outcome.{refused, number_of};
-ghost use Rattle.engine.specs.Engine.{enclose_of, list_after};
+ghost use Rattle.answers.specs.Outcome.{outcome_by};
+ghost use Rattle.engine.specs.Engine.{enclosure_told, enclose_of, list_after};
 ghost use Rattle.c_disk.specs.Answer.{disk_answer};
 
 use answers::Refusal;
-use c_types::Support;
+use c_types::{NO_DISK, NO_SUPPORT, Support};
+use engine::Enclosed;
 use geometry::Disk;
 
+// `refusal` is 0, or a refusal's number and all else 0: C has no Result (volkhidar_smallest_disk).
 #[repr(C)]
 #[derive(Drop)]
 pub struct DiskAnswer {
@@ -19,14 +21,24 @@ pub struct DiskAnswer {
     pub tests: u64,
 }
 
-fn no_answer(r: Refusal) -> DiskAnswer
-    ensures { result ≡ disk_answer (refused (number_of r)) }
-{
-    DiskAnswer {
-        refusal: c_types::code(r),
-        disk: c_types::no_disk(),
-        support: c_types::no_support(),
-        tests: 0,
+impl From<Result<Enclosed, Refusal>> for DiskAnswer {
+    ghost from_gives = { λ r a. a ≡ disk_answer (outcome_by enclosure_told r) };
+
+    fn from(enclosed: Result<Enclosed, Refusal>) -> DiskAnswer {
+        match enclosed {
+            Ok(e) => DiskAnswer {
+                refusal: 0,
+                disk: e.found.disk,
+                support: Support::from(e.found.support),
+                tests: e.tests,
+            },
+            Err(r) => DiskAnswer {
+                refusal: c_types::code(r),
+                disk: NO_DISK,
+                support: NO_SUPPORT,
+                tests: 0,
+            },
+        }
     }
 }
 
@@ -34,14 +46,5 @@ pub fn smallest_disk(list: &mut [i16]) -> DiskAnswer
     ensures value { result ≡ disk_answer (enclose_of list.old) }
     ensures list_after { list.new ≡ list_after list.old }
 {
-    let enclosed = engine::smallest_disk(list);
-    match enclosed {
-        engine::Enclosed::Found(d, t, n) => DiskAnswer {
-            refusal: 0,
-            disk: d,
-            support: c_types::support_of(t),
-            tests: n,
-        },
-        engine::Enclosed::Refused(r) => no_answer(r),
-    }
+    DiskAnswer::from(engine::smallest_disk(list))
 }

@@ -2,7 +2,7 @@
 --
 --   glyph_answer o == 0 and what the outcome o gives; or the number of the refusal, and 0 for everything else
 use Rattle.answers.specs.Outcome.{Outcome, given, refused}
-use Rattle.directory.specs.Directory.{Place}
+use Rattle.directory.specs.declared.Place.{Place}
 use Rattle.c_glyph.specs.declared.GlyphAnswer.{GlyphAnswer}
 
 abbrev pub glyph_answer : Outcome Place → GlyphAnswer

@@ -6,22 +6,11 @@ ghost use Rattle.hull_points.specs.Reducing.{reduce_of, list_after};
 ghost use Rattle.c_load.specs.Answer.{load_answer};
 
 use c_load::LoadAnswer;
-use hull_points::Reduced;
 
 // The answer is the loader's: a refusal and a count.
 pub fn reduce_to_hull(list: &mut [i16]) -> LoadAnswer
     ensures value { result ≡ load_answer (reduce_of list.old) }
     ensures list_after { list.new ≡ list_after list.old }
 {
-    let reduced = hull_points::reduce_to_hull(list);
-    match reduced {
-        Reduced::Points(n) => LoadAnswer {
-            refusal: 0,
-            count: n as u64,
-        },
-        Reduced::Refused(r) => LoadAnswer {
-            refusal: c_types::code(r),
-            count: 0,
-        },
-    }
+    LoadAnswer::from(hull_points::reduce_to_hull(list))
 }

@@ -2,16 +2,18 @@
 #![tactic(auto)]
 
 ghost use Rattle.std.specs.Prelude.{◌≡◌};
-ghost use Rattle.answers.specs.Outcome.{refused, number_of};
-ghost use Rattle.geometry.specs.Plane.{members, numbers};
+ghost use Rattle.answers.specs.Outcome.{outcome};
+ghost use Rattle.geometry.specs.Plane.{numbers};
 ghost use Rattle.preview.specs.Preview.{preview_of};
 ghost use Rattle.c_types.specs.Support.{points_of};
 ghost use Rattle.c_preview.specs.Answer.{preview_answer};
 
 use answers::Refusal;
-use c_types::{Given, Support};
-use geometry::{Disk, SupportSet};
+use c_types::Support;
+use geometry::Disk;
+use preview::Preview;
 
+// `refusal` is 0, or a refusal's number and all else 0: C has no Result (volkhidar_preview).
 #[repr(C)]
 #[derive(Drop)]
 pub struct PreviewAnswer {
@@ -21,38 +23,30 @@ pub struct PreviewAnswer {
     pub radius: f64,
 }
 
-fn no_preview(r: Refusal) -> PreviewAnswer
-    ensures { result ≡ preview_answer (refused (number_of r)) }
-{
-    PreviewAnswer {
-        refusal: c_types::code(r),
-        x: 0.0,
-        y: 0.0,
-        radius: 0.0,
+impl From<Result<Preview, Refusal>> for PreviewAnswer {
+    ghost from_gives = { λ r a. a ≡ preview_answer (outcome r) };
+
+    fn from(preview: Result<Preview, Refusal>) -> PreviewAnswer {
+        match preview {
+            Ok(p) => PreviewAnswer {
+                refusal: 0,
+                x: p.x,
+                y: p.y,
+                radius: p.radius,
+            },
+            Err(r) => PreviewAnswer {
+                refusal: c_types::code(r),
+                x: 0.0,
+                y: 0.0,
+                radius: 0.0,
+            },
+        }
     }
 }
 
-fn preview_answer(d: Disk, t: SupportSet) -> PreviewAnswer
-    ensures { result ≡ preview_answer (preview_of (numbers d) (members t)) }
-{
-    let shown = preview::preview_of(d, t);
-    match shown {
-        preview::Shown::At(p) => PreviewAnswer {
-            refusal: 0,
-            x: p.x,
-            y: p.y,
-            radius: p.radius,
-        },
-        preview::Shown::Refused(r) => no_preview(r),
-    }
-}
-
+#[tactic(auto, using(c_types::proofs::NoSet::no_points))]
 pub fn preview_of(d: Disk, t: Support) -> PreviewAnswer
     ensures { result ≡ preview_answer (preview_of (numbers d) (points_of t)) }
 {
-    let given = c_types::given_set(t);
-    match given {
-        Given::Set(set) => preview_answer(d, set),
-        Given::Nothing => no_preview(Refusal::BadRecord),
-    }
+    PreviewAnswer::from(c_types::supported(d, t).and_then(preview::preview_of))
 }

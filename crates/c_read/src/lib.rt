@@ -2,15 +2,15 @@
 #![tactic(auto)]
 
 ghost use Rattle.std.specs.Prelude.{◌≡◌};
-ghost use Rattle.answers.specs.Outcome.{refused, number_of};
-ghost use Rattle.record_reader.specs.Reading.{read_of};
+ghost use Rattle.answers.specs.Outcome.{outcome_by};
+ghost use Rattle.record_reader.specs.Reading.{held, read_of};
 ghost use Rattle.c_read.specs.Answer.{record_answer};
 
 use answers::Refusal;
-use c_types::Support;
-use geometry::Disk;
-use record_reader::Record;
+use c_types::{NO_DISK, NO_SUPPORT, Support};
+use geometry::{Disk, SupportedDisk};
 
+// `refusal` is 0, or a refusal's number and all else 0: C has no Result (volkhidar_read_record).
 #[repr(C)]
 #[derive(Drop)]
 pub struct RecordAnswer {
@@ -19,26 +19,27 @@ pub struct RecordAnswer {
     pub support: Support,
 }
 
-fn no_record(r: Refusal) -> RecordAnswer
-    ensures { result ≡ record_answer (refused (number_of r)) }
-{
-    RecordAnswer {
-        refusal: c_types::code(r),
-        disk: c_types::no_disk(),
-        support: c_types::no_support(),
+impl From<Result<SupportedDisk, Refusal>> for RecordAnswer {
+    ghost from_gives = { λ r a. a ≡ record_answer (outcome_by held r) };
+
+    fn from(read: Result<SupportedDisk, Refusal>) -> RecordAnswer {
+        match read {
+            Ok(f) => RecordAnswer {
+                refusal: 0,
+                disk: f.disk,
+                support: Support::from(f.support),
+            },
+            Err(r) => RecordAnswer {
+                refusal: c_types::code(r),
+                disk: NO_DISK,
+                support: NO_SUPPORT,
+            },
+        }
     }
 }
 
 pub fn read_record(bytes: &[u8]) -> RecordAnswer
     ensures { result ≡ record_answer (read_of bytes.now) }
 {
-    let record = record_reader::read_record(bytes);
-    match record {
-        Record::Read(d, t) => RecordAnswer {
-            refusal: 0,
-            disk: d,
-            support: c_types::support_of(t),
-        },
-        Record::Refused(r) => no_record(r),
-    }
+    RecordAnswer::from(record_reader::read_record(bytes))
 }

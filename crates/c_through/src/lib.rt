@@ -3,13 +3,19 @@
 #![tactic(auto)]
 
 ghost use Rattle.std.specs.Prelude.{◌≡◌};
+ghost use Rattle.answers.specs.Outcome.{outcome_by};
+ghost use Rattle.geometry.specs.Plane.{numbers};
 ghost use Rattle.chosen_points.specs.declared.Chosen.TheVariants.{Two};
 ghost use Rattle.chosen_points.specs.Chosen.{through_of};
 ghost use Rattle.c_through.specs.Answer.{through_answer};
 
-use chosen_points::{Chosen, Through};
+use answers::Refusal;
+use c_types::NO_DISK;
+use chosen_points::Chosen;
 use geometry::{Disk, Point};
 
+// A disk, or a refusal: the answer of the other call too that gives a disk alone.
+// `refusal` is 0, or a refusal's number and all else 0: C has no Result (volkhidar_smallest_disk_through).
 #[repr(C)]
 #[derive(Drop)]
 pub struct ThroughAnswer {
@@ -17,19 +23,22 @@ pub struct ThroughAnswer {
     pub disk: Disk,
 }
 
-pub fn smallest_disk_through(list: &[i16], first: Point, second: Point) -> ThroughAnswer
-    ensures answer { result ≡ through_answer (through_of list.now (Two first second)) }
-    ensures list { list.now ≡ list.now }
-{
-    let through = chosen_points::smallest_disk_through(list, Chosen::Two(first, second));
-    match through {
-        Through::Found(d) => ThroughAnswer {
-            refusal: 0,
-            disk: d,
-        },
-        Through::Refused(r) => ThroughAnswer {
-            refusal: c_types::code(r),
-            disk: c_types::no_disk(),
-        },
+impl From<Result<Disk, Refusal>> for ThroughAnswer {
+    ghost from_gives = { λ r a. a ≡ through_answer (outcome_by numbers r) };
+
+    fn from(found: Result<Disk, Refusal>) -> ThroughAnswer {
+        match found {
+            Ok(disk) => ThroughAnswer { refusal: 0, disk },
+            Err(r) => ThroughAnswer {
+                refusal: c_types::code(r),
+                disk: NO_DISK,
+            },
+        }
     }
+}
+
+pub fn smallest_disk_through(list: &[i16], first: Point, second: Point) -> ThroughAnswer
+    ensures { result ≡ through_answer (through_of list.now (Two first second)) }
+{
+    ThroughAnswer::from(chosen_points::smallest_disk_through(list, Chosen::Two(first, second)))
 }

@@ -11,7 +11,7 @@ use Rattle.geometry.specs.Plane.{Disk}
 use Rattle.validity.specs.Valid.{valid_in, valid_points_in, valid_disk, valid}
 use Rattle.c_types.specs.Support.{counted}
 
-pub other_size : (n : ℕ) (a b c : Point) → (n ≡ 1 → ⊥) → (n ≡ 2 → ⊥) → (n ≡ 3 → ⊥) → [] ≡ counted n a b c
+pub other_size : (n : ℕ) (a b c : Point) → (n ≡ 1 → ⊥) → (n ≡ 2 → ⊥) → (n ≡ 3 → ⊥) → counted n a b c ≡ []
 unfolding counted
 other_size zero a b c h k l = refl
 other_size (suc zero) a b c h k l = absurd (h refl)

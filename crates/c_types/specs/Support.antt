@@ -3,15 +3,19 @@
 --   no_support      == what stands beside a refusal in place of a support set
 --   support_of ps   == the points ps, one to three, the last repeated to make three
 --   points_of t     == the first `size` points of t; none where the size is not 1, 2 or 3
---   set_points g    == the points of a support set that is given, or none
+--   IsSetOf t r     == r is a support set of the points of t; or no points of t count, and r is a bad record
+--   IsSupported d t r == the same of the disk d with that support set
 --
 -- No record holds a set of no points (validity/specs/Valid: `one_to_three`), so a size that no set has is refused with 7.
-use Rattle.std.specs.Prelude.{List, [], ◌∷◌, ℕ, zero, suc, pos}
+use Rattle.std.specs.Prelude.{◌≡◌, List, [], ◌∷◌, ℕ, zero, suc, pos, Result, MatchResult}
+use Rattle.answers.specs.declared.Refusal.{Refusal}
+use Rattle.answers.specs.declared.Refusal.TheVariants.{BadRecord}
 use Rattle.geometry.specs.declared.Point.{Point}
+use Rattle.geometry.specs.declared.Disk.{Disk}
+use Rattle.geometry.specs.declared.SupportSet.{SupportSet}
+use Rattle.geometry.specs.declared.SupportedDisk.{SupportedDisk}
 use Rattle.geometry.specs.Plane.{members}
 use Rattle.c_types.specs.declared.Support.{Support}
-use Rattle.c_types.specs.declared.Given.{Given}
-use Rattle.c_types.specs.declared.Given.TheVariants.{Set, Nothing}
 
 abbrev pub origin : Point
 origin = record { x = pos 0; y = pos 0 }
@@ -36,6 +40,8 @@ counted (suc (suc (suc (suc n)))) a b c = []
 abbrev pub points_of : Support → List Point
 points_of t = counted t.size t.a t.b t.c
 
-abbrev pub set_points : Given → List Point
-set_points (Set t) = members t
-set_points Nothing = []
+abbrev pub IsSetOf : Support → Result SupportSet Refusal → Type 0
+IsSetOf t r = MatchResult r (λ s. members s ≡ points_of t) (λ e. (points_of t ≡ []) × (e ≡ BadRecord))
+
+abbrev pub IsSupported : Disk → Support → Result SupportedDisk Refusal → Type 0
+IsSupported d t r = MatchResult r (λ f. (f.disk ≡ d) × (members f.support ≡ points_of t)) (λ e. (points_of t ≡ []) × (e ≡ BadRecord))

@@ -2,39 +2,32 @@
 #![tactic(auto)]
 
 ghost use Rattle.std.specs.Prelude.{◌≡◌};
-ghost use Rattle.geometry.specs.Plane.{members, numbers};
+ghost use Rattle.answers.specs.Outcome.{outcome};
+ghost use Rattle.geometry.specs.Plane.{numbers};
 ghost use Rattle.record_writer.specs.Writing.{write_of, buffer_after};
 ghost use Rattle.c_types.specs.Support.{points_of};
 ghost use Rattle.c_types.specs.Code.{code_of};
 
 use answers::Refusal;
-use c_types::{Given, Support};
-use geometry::{Disk, SupportSet};
-use record_writer::Written;
+use c_types::Support;
+use geometry::Disk;
+use record_writer::RECORD_LENGTH;
 
-fn write_code(d: Disk, t: SupportSet, buf: &mut [u8]) -> u64
-    ensures value { result ≡ code_of (write_of (numbers d) (members t) buf.old) }
-    ensures buf_after { buf.new ≡ buffer_after (numbers d) (members t) buf.old }
+// That the buffer is too short is said first, of a set of no known size too.
+#[tactic(auto, using(c_types::proofs::NoSet::no_points))]
+fn write(d: Disk, t: Support, buf: &mut [u8]) -> Result<(), Refusal>
+    ensures value { outcome result ≡ write_of (numbers d) (points_of t) buf.old }
+    ensures buf_after { buf.new ≡ buffer_after (numbers d) (points_of t) buf.old }
 {
-    let written = record_writer::write_record(d, t, buf);
-    match written {
-        Written::Done => 0,
-        Written::Refused(r) => c_types::code(r),
+    if buf.len() < RECORD_LENGTH {
+        return Err(Refusal::NoRoom);
     }
+    record_writer::write_record(c_types::supported(d, t)?, buf)
 }
 
 pub fn write_record(d: Disk, t: Support, buf: &mut [u8]) -> u64
     ensures value { result ≡ code_of (write_of (numbers d) (points_of t) buf.old) }
     ensures buf_after { buf.new ≡ buffer_after (numbers d) (points_of t) buf.old }
 {
-    let given = c_types::given_set(t);
-    match given {
-        Given::Set(set) => write_code(d, set, buf),
-        Given::Nothing => {
-            if buf.len() < record_writer::RECORD_LENGTH {
-                return c_types::code(Refusal::NoRoom);
-            }
-            c_types::code(Refusal::BadRecord)
-        }
-    }
+    c_types::code_of(write(d, t, buf))
 }

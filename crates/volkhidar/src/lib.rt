@@ -85,16 +85,14 @@ pub extern "C" fn volkhidar_smallest_disk_through(
     first: Point,
     second: Point,
 ) -> ThroughAnswer
-    ensures value { result ≡ through_answer (through_of list.now (Two first second)) }
-    ensures list_value { list.now ≡ list.now }
+    ensures { result ≡ through_answer (through_of list.now (Two first second)) }
 {
     c_through::smallest_disk_through(list, first, second)
 }
 
 #[unsafe(no_mangle)]
 pub extern "C" fn volkhidar_smallest_disk_of_traced(list: &[i16]) -> ThroughAnswer
-    ensures value { result ≡ through_answer (traced_of list.now) }
-    ensures list_value { list.now ≡ list.now }
+    ensures { result ≡ through_answer (traced_of list.now) }
 {
     c_traced::smallest_disk_of_traced(list)
 }
@@ -109,8 +107,7 @@ pub extern "C" fn volkhidar_reduce_to_hull(list: &mut [i16]) -> LoadAnswer
 
 #[unsafe(no_mangle)]
 pub extern "C" fn volkhidar_widest_stretch(list: &[i16]) -> StretchAnswer
-    ensures value { result ≡ stretch_answer (stretch_of list.now) }
-    ensures list_value { list.now ≡ list.now }
+    ensures { result ≡ stretch_answer (stretch_of list.now) }
 {
     c_stretch::widest_stretch(list)
 }
