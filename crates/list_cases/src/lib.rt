@@ -5,168 +5,150 @@
 ghost use Rattle.std.specs.Prelude.{◌≡◌, ◌%◌, ◌≤◌, length};
 ghost use Rattle.relative_disks.specs.Relative.{Small};
 
+use answers::Refusal;
 use drawn_points::DrawnPoint;
 use geometry::Point;
 use relative_disks::RelativeDisk;
+use std::io;
+
+// The list as a call leaves it.
+fn print_left(rt: &impl Print, list: &[i16]) -> io::Result<()> {
+    println!(rt; "left {}", checksum::of(list))
+}
 
 // The engine on a list of points alone.
-pub fn solve(list: &mut [i16]) {
-    match engine::smallest_disk(list) {
-        engine::Enclosed::Found(d, t, tests) => {
-            report::print_enclosure(d, t, tests);
-        }
-        engine::Enclosed::Refused(r) => printing::print_refusal(r),
-    }
-    printing::print_count(b"left", checksum::of_list(list));
+fn solve(rt: &impl Print, list: &mut [i16]) -> io::Result<()> {
+    report::print_enclosed(rt, engine::smallest_disk(list))?;
+    print_left(rt, list)
 }
 
-// The list as the engine leaves it.
-fn print_order(list: &mut [i16]) {
-    engine::smallest_disk(list);
-    printing::print_count(b"left", checksum::of_list(list));
+// How many points a call says are at the front of the list, or its refusal, and the list as it leaves it.
+fn print_points(rt: &impl Print, answer: Result<usize, Refusal>, list: &[i16]) -> io::Result<()> {
+    printing::print_answer(rt, "points", answer)?;
+    println!(rt; "list {}", checksum::of(list))
 }
 
-// The list of an accepted description, as the engine leaves it.
-fn print_left(text: &[u8]) {
-    let mut list = [0i16; 8192];
-    if let description::Loaded::Points(n) = description::load(text, &mut list) {
-        if n <= 4096 {
-            print_order(&mut list[..2 * n]);
-        }
+// The same, and the engine on these points.
+pub fn print_and_solve(
+    rt: &impl Print,
+    answer: Result<usize, Refusal>,
+    list: &mut [i16],
+) -> io::Result<()> {
+    print_points(rt, answer, list)?;
+    if let Ok(n) = answer
+        && let Some(front) = list.get_mut(..n.saturating_mul(2))
+    {
+        solve(rt, front)?;
     }
+    Ok(())
 }
 
 // D: a description, as the listing prints it, and the list that the engine leaves.
-pub fn run_listing(text: &[u8]) {
-    report::print_description(text);
-    print_left(text);
+pub fn run_listing(rt: &impl Print, text: &[u8]) -> io::Result<()> {
+    report::print_description(rt, text)?;
+    let mut list = [0i16; 8192];
+    if let Ok(n) = description::load(text, &mut list)
+        && let Some(front) = list.get_mut(..n.saturating_mul(2))
+    {
+        let _ = engine::smallest_disk(front);
+        print_left(rt, front)?;
+    }
+    Ok(())
 }
 
 // E: a list of points, through the engine.
-pub fn run_engine(bytes: &[u8]) {
-    let mut list = [0i16; 8200];
-    let n = bytes.len() / 2;
-    if n <= 8200 {
-        cases::fill_list(bytes, &mut list);
-        solve(&mut list[..n]);
+pub fn run_engine(rt: &impl Print, bytes: &[u8]) -> io::Result<()> {
+    let mut room = [0i16; 8200];
+    match cases::list_in(bytes, &mut room) {
+        Some(list) => solve(rt, list),
+        None => Ok(()),
     }
 }
 
 // The disk that a run ends on; three points in a row have no circle.
-fn print_relative(d: RelativeDisk)
+fn print_relative(rt: &impl Print, d: RelativeDisk) -> io::Result<()>
     requires { Small d }
 {
     if 0 < d.e {
-        printing::print_disk(lowest_disks::written(d.e, d.qx, d.qy, d.gx, d.gy));
+        println!(rt; "disk {}", lowest_disks::written(d))
     } else {
-        printing::print_text(b"no circle\n");
+        println!(rt; "no circle")
     }
 }
 
 // The procedure on a list of points alone, with a and b fixed; all of them in the em box, or nothing is done.
-fn solve_fixed(list: &mut [i16], a: Point, b: Point)
-    requires fact_1 { length list.old % 2 ≡ 0 }
-    requires fact_2 { length list.old ≤ 8192 }
+fn solve_fixed(rt: &impl Print, list: &mut [i16], a: Point, b: Point) -> io::Result<()>
+    requires whole { length list.old % 2 ≡ 0 }
+    requires few { length list.old ≤ 8192 }
 {
     if !engine::all_in_em_box(list) {
-        return;
+        return Ok(());
     }
     if !geometry::in_em_box(a) {
-        return;
+        return Ok(());
     }
     if !geometry::in_em_box(b) {
-        return;
+        return Ok(());
     }
     let n = list.len() / 2;
     let run = inner_level::two_fixed(list, n, a, b);
-    print_relative(run.disk);
-    printing::print_count(b"tests", run.tests);
-    printing::print_count(b"left", checksum::of_list(list));
+    print_relative(rt, run.disk)?;
+    println!(rt; "tests {}", run.tests)?;
+    print_left(rt, list)
 }
 
 // F: two points, four bytes each, then a list of points; through the procedure with the two fixed.
-pub fn run_fixed(bytes: &[u8]) {
-    if 8 <= bytes.len() {
-        let a = cases::point_at(bytes, 0);
-        let b = cases::point_at(bytes, 4);
-        let n = (bytes.len() - 8) / 4;
-        let mut list = [0i16; 8192];
-        cases::fill_list(&bytes[8..], &mut list);
-        if n <= 4096 {
-            solve_fixed(&mut list[..2 * n], a, b);
-        }
+pub fn run_fixed(rt: &impl Print, bytes: &[u8]) -> io::Result<()> {
+    let Some((fixed, numbers)) = bytes.split_at_checked(8) else {
+        return Ok(());
+    };
+    let whole = numbers.len() / 4 * 4;
+    let mut room = [0i16; 8192];
+    match cases::list_in(&numbers[..whole], &mut room) {
+        Some(list) => solve_fixed(
+            rt,
+            list,
+            cases::point_at(fixed, 0),
+            cases::point_at(fixed, 4),
+        ),
+        None => Ok(()),
     }
-}
-
-fn load(text: &[u8], list: &mut [i16]) {
-    match description::load(text, list) {
-        description::Loaded::Points(n) => printing::print_count(b"points", n as u64),
-        description::Loaded::Refused(r) => printing::print_refusal(r),
-    }
-    printing::print_count(b"list", checksum::of_list(list));
 }
 
 // L: the length of the lent list in two bytes, then a description, through the loader.
-pub fn run_loader(bytes: &[u8]) {
-    if 2 <= bytes.len() {
-        let room = cases::joined(bytes[0], bytes[1]);
-        let mut list = [12321i16; 8200];
-        if room <= 8200 {
-            load(&bytes[2..], &mut list[..room]);
-        }
+pub fn run_loader(rt: &impl Print, bytes: &[u8]) -> io::Result<()> {
+    let mut room = [12321i16; 8200];
+    if let Some(text) = bytes.get(2..)
+        && let Some(list) = room.get_mut(..cases::length_at(bytes, 0))
+    {
+        let answer = description::load(text, list);
+        print_points(rt, answer, list)?;
     }
+    Ok(())
 }
 
-// Of the kind 1 whole numbers, of any other floats; x and y have eight bytes each.
-fn get_drawn(bytes: &[u8], kind: u8) -> DrawnPoint {
-    if kind == 1 {
+// The kind 1 has whole numbers, any other floats; x and y have eight bytes each.
+fn drawn_point(bytes: &[u8]) -> DrawnPoint {
+    if bytes.first() == Some(&1) {
         return DrawnPoint::Whole(cases::int_at(bytes, 1), cases::int_at(bytes, 9));
     }
     DrawnPoint::Drawn(cases::float_at(bytes, 1), cases::float_at(bytes, 9))
 }
 
-// How many points there are with p behind n of them; 0 where it is refused.
-fn put(p: DrawnPoint, list: &mut [i16], n: usize) -> usize {
-    match drawn_points::append_point(p, list, n) {
-        drawn_points::Appended::Points(k) => {
-            printing::print_count(b"points", k as u64);
-            k
-        }
-        drawn_points::Appended::Refused(r) => {
-            printing::print_refusal(r);
-            0
-        }
-    }
-}
-
-// The engine on the first k points of a list, if there is one.
-fn solve_front(list: &mut [i16], k: usize) {
-    if k == 0 {
-        return;
-    }
-    if k <= 4096 {
-        if 8192 <= list.len() {
-            solve(&mut list[..2 * k]);
-        }
-    }
-}
-
-fn append(p: DrawnPoint, list: &mut [i16], n: usize) {
-    let k = put(p, list, n);
-    printing::print_count(b"list", checksum::of_list(list));
-    solve_front(list, k);
-}
-
 // A: a point, how many points are there in eight bytes, the length of the lent list in two; then the numbers at its front.
-pub fn run_append(bytes: &[u8]) {
-    if 27 <= bytes.len() {
-        let p = get_drawn(bytes, bytes[0]);
-        let n = cases::word_at(bytes, 17) as usize;
-        let room = cases::joined(bytes[25], bytes[26]);
-        let mut list = [12321i16; 8200];
-        cases::fill_list(&bytes[27..], &mut list);
-        if room <= 8200 {
-            append(p, &mut list[..room], n);
-        }
+pub fn run_append(rt: &impl Print, bytes: &[u8]) -> io::Result<()> {
+    let Some((head, numbers)) = bytes.split_at_checked(27) else {
+        return Ok(());
+    };
+    let mut room = [12321i16; 8200];
+    cases::fill_list(numbers, &mut room);
+    if let Some(list) = room.get_mut(..cases::length_at(head, 25)) {
+        let answer = drawn_points::append_point(
+            drawn_point(head),
+            list,
+            cases::word_at(head, 17) as usize,
+        );
+        print_and_solve(rt, answer, list)?;
     }
+    Ok(())
 }

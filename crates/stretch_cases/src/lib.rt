@@ -1,31 +1,21 @@
 // Stored cases of the widest stretch of a list (tests/README.md): each is given its bytes, and what the call answers and leaves is printed.
 #![tactic(auto)]
 
-use stretches::Stretch;
-use widest_stretch::Stretched;
+use std::io;
 
-fn print_stretch(s: Stretch) {
-    printing::print_text(b"stretch");
-    printing::print_point(s.a);
-    printing::print_point(s.b);
-    printing::print_natural(s.w);
-    printing::print_text(b"\n");
-}
-
-fn solve(list: &[i16]) {
+fn solve(rt: &impl Print, list: &[i16]) -> io::Result<()> {
     match widest_stretch::widest_stretch(list) {
-        Stretched::Found(s) => print_stretch(s),
-        Stretched::Refused(r) => printing::print_refusal(r),
+        Ok(stretch) => println!(rt; "stretch {} {} {}", stretch.a, stretch.b, stretch.w)?,
+        Err(refusal) => println!(rt; "{refusal}")?,
     }
-    printing::print_count(b"left", checksum::of_list(list));
+    println!(rt; "left {}", checksum::of(list))
 }
 
 // X: a list of points.
-pub fn run_stretch(bytes: &[u8]) {
-    let n = bytes.len() / 2;
-    let mut list = [0i16; 8200];
-    cases::fill_list(bytes, &mut list);
-    if n <= 8200 {
-        solve(&list[..n]);
+pub fn run_stretch(rt: &impl Print, bytes: &[u8]) -> io::Result<()> {
+    let mut room = [0i16; 8200];
+    match cases::list_in(bytes, &mut room) {
+        Some(list) => solve(rt, list),
+        None => Ok(()),
     }
 }

@@ -1,82 +1,62 @@
 // Runs the stored cases (tests/README.md): each names a call and gives it its bytes; what the calls answer and leave is printed.
 #![tactic(auto)]
 
-use geometry::{Disk, SupportSet};
+use cases::Call;
+use directory::Place;
+use geometry::{Disk, SupportSet, SupportedDisk};
+use std::{io, num};
 use wide_numbers::Wide;
 
-fn print_radius(d: Disk, t: SupportSet) {
-    match radius::whole_radius(d, t) {
-        radius::Radius::Whole(r) => printing::print_count(b"whole", r),
-        radius::Radius::Refused(r) => printing::print_refusal(r),
-    }
-}
-
-// The bits of a float; those of a NaN are not asked for.
-fn print_float(v: f64) {
-    if v == v {
-        printing::print_bits(f64::to_bits(v));
-    }
-}
-
-fn print_preview(d: Disk, t: SupportSet) {
-    match preview::preview_of(d, t) {
-        preview::Shown::At(p) => {
-            printing::print_text(b"preview");
-            print_float(p.x);
-            print_float(p.y);
-            print_float(p.radius);
-            printing::print_text(b"\n");
+fn print_preview(rt: &impl Print, found: SupportedDisk) -> io::Result<()> {
+    match preview::preview_of(found) {
+        Ok(p) => {
+            let [x, y, radius] = [p.x, p.y, p.radius].map(|v| num::f64_to_bits_with_nan(v));
+            println!(rt; "preview {x:016x} {y:016x} {radius:016x}")
         }
-        preview::Shown::Refused(r) => printing::print_refusal(r),
+        Err(refusal) => println!(rt; "{refusal}"),
     }
 }
 
-fn print_part(sheet: &[u8], start: usize, len: usize) {
-    let bytes = sheet::part(sheet, start, len);
-    printing::print_pair(b"bytes", bytes.len() as u64, checksum::of_bytes(bytes));
-}
-
-fn open(sheet: &[u8], k: usize) {
-    match sheet::glyph(sheet, k) {
-        sheet::Opened::Part(start, len) => {
-            printing::print_pair(b"part", start as u64, len as u64);
-            print_part(sheet, start, len);
-        }
-        sheet::Opened::Refused(r) => printing::print_refusal(r),
-    }
+fn print_part(rt: &impl Print, sheet: &[u8], place: Place) -> io::Result<()> {
+    let bytes = sheet::part(sheet, place);
+    println!(rt; "bytes {} {}", bytes.len(), checksum::of(bytes))
 }
 
 // S: a glyph number in two bytes, then the sheet.
-fn run_sheet(bytes: &[u8]) {
-    if 2 <= bytes.len() {
-        open(&bytes[2..], cases::joined(bytes[0], bytes[1]));
+fn run_sheet(rt: &impl Print, bytes: &[u8]) -> io::Result<()> {
+    let Some((number, sheet)) = bytes.split_at_checked(2) else {
+        return Ok(());
+    };
+    match sheet::glyph(sheet, cases::length_at(number, 0)) {
+        Ok(place) => {
+            println!(rt; "part {} {}", place.start, place.len)?;
+            print_part(rt, sheet, place)
+        }
+        Err(refusal) => println!(rt; "{refusal}"),
     }
 }
 
 // P: a start and a length in eight bytes each, then the sheet.
-fn run_part(bytes: &[u8]) {
-    if 16 <= bytes.len() {
-        let start = cases::word_at(bytes, 0);
-        let len = cases::word_at(bytes, 8);
-        print_part(&bytes[16..], start as usize, len as usize);
+fn run_part(rt: &impl Print, bytes: &[u8]) -> io::Result<()> {
+    let Some((head, sheet)) = bytes.split_at_checked(16) else {
+        return Ok(());
+    };
+    let start = cases::word_at(head, 0) as usize;
+    let len = cases::word_at(head, 8) as usize;
+    print_part(rt, sheet, Place { start, len })
+}
+
+// The number of points stands in byte 1, the points from byte 42 on.
+fn support_of(bytes: &[u8]) -> SupportSet {
+    let [a, b, c] = [42, 46, 50].map(|at| cases::point_at(bytes, at));
+    match bytes.get(1) {
+        Some(1) => SupportSet::One(a),
+        Some(2) => SupportSet::Two(a, b),
+        _ => SupportSet::Three(a, b, c),
     }
 }
 
-// The points stand from byte 42 on.
-fn get_support(bytes: &[u8], count: u8) -> SupportSet {
-    let a = cases::point_at(bytes, 42);
-    let b = cases::point_at(bytes, 46);
-    let c = cases::point_at(bytes, 50);
-    if count == 1 {
-        return SupportSet::One(a);
-    }
-    if count == 2 {
-        return SupportSet::Two(a, b);
-    }
-    SupportSet::Three(a, b, c)
-}
-
-fn get_disk(bytes: &[u8]) -> Disk {
+fn disk_of(bytes: &[u8]) -> Disk {
     let x = cases::signed_word_at(bytes, 2);
     let y = cases::signed_word_at(bytes, 10);
     let e = cases::word_at(bytes, 18);
@@ -86,84 +66,75 @@ fn get_disk(bytes: &[u8]) -> Disk {
     Disk { x, y, e, s }
 }
 
-fn write(d: Disk, t: SupportSet, buffer: &mut [u8]) {
-    match record_writer::write_record(d, t, buffer) {
-        record_writer::Written::Done => printing::print_text(b"written\n"),
-        record_writer::Written::Refused(r) => printing::print_refusal(r),
+// Whole radius, preview, and the record in the buffer.
+fn print_results(rt: &impl Print, found: SupportedDisk, buffer: &mut [u8]) -> io::Result<()> {
+    printing::print_answer(rt, "whole", radius::whole_radius(found))?;
+    print_preview(rt, found)?;
+    match record_writer::write_record(found, buffer) {
+        Ok(()) => println!(rt; "written")?,
+        Err(refusal) => println!(rt; "{refusal}")?,
     }
-    printing::print_count(b"buffer", checksum::of_bytes(buffer));
-}
-
-// What was read, written again.
-fn write_again(d: Disk, t: SupportSet) {
-    let mut buffer = [238u8; 64];
-    write(d, t, &mut buffer);
+    println!(rt; "buffer {}", checksum::of(buffer))
 }
 
 // R: a record, through the reader; what is read goes through whole radius, preview and writer.
-fn run_reader(bytes: &[u8]) {
+fn run_reader(rt: &impl Print, bytes: &[u8]) -> io::Result<()> {
     match record_reader::read_record(bytes) {
-        record_reader::Record::Read(d, t) => {
-            printing::print_disk(d);
-            printing::print_support(t);
-            print_radius(d, t);
-            print_preview(d, t);
-            write_again(d, t);
+        Ok(found) => {
+            println!(rt; "disk {}\nrim {}", found.disk, found.support)?;
+            print_results(rt, found, &mut [238u8; 64])
         }
-        record_reader::Record::Refused(r) => printing::print_refusal(r),
+        Err(refusal) => println!(rt; "{refusal}"),
     }
 }
 
-// W: the length of a buffer, the number of points, a disk and three points, through cutting radius, preview and writer.
-fn run_writer(bytes: &[u8]) {
-    if 2 <= bytes.len() {
-        let d = get_disk(bytes);
-        let t = get_support(bytes, bytes[1]);
-        print_radius(d, t);
-        print_preview(d, t);
-        let mut buffer = [238u8; 256];
-        let room = cases::wide(bytes[0]);
-        write(d, t, &mut buffer[..room]);
-    }
+// W: the length of a buffer, the number of points, a disk and three points, through whole radius, preview and writer.
+fn run_writer(rt: &impl Print, bytes: &[u8]) -> io::Result<()> {
+    let [room, _, ..] = bytes else {
+        return Ok(());
+    };
+    let disk = disk_of(bytes);
+    let support = support_of(bytes);
+    let mut buffer = [238u8; 256];
+    print_results(
+        rt,
+        SupportedDisk { disk, support },
+        &mut buffer[..usize::from(*room)],
+    )
 }
 
-fn run_case(call: u8, bytes: &[u8]) {
+// A match: a table of closures would name each call once more, and say no more of it.
+fn run_case(rt: &impl Print, call: Call, bytes: &[u8]) -> io::Result<()> {
     match call {
-        b'D' => list_cases::run_listing(bytes),
-        b'E' => list_cases::run_engine(bytes),
-        b'L' => list_cases::run_loader(bytes),
-        b'F' => list_cases::run_fixed(bytes),
-        b'C' => chosen_cases::run_chosen(bytes),
-        b'T' => traced_cases::run_traced(bytes),
-        b'H' => hull_cases::run_hull(bytes),
-        b'X' => stretch_cases::run_stretch(bytes),
-        b'A' => list_cases::run_append(bytes),
-        b'G' => run_cases::run_allowed(bytes),
-        b'B' => estimate_cases::estimate_listed(bytes),
-        b'S' => run_sheet(bytes),
-        b'P' => run_part(bytes),
-        b'R' => run_reader(bytes),
-        b'W' => run_writer(bytes),
-        _ => {}
+        Call::Listing => list_cases::run_listing(rt, bytes),
+        Call::Engine => list_cases::run_engine(rt, bytes),
+        Call::Loader => list_cases::run_loader(rt, bytes),
+        Call::Fixed => list_cases::run_fixed(rt, bytes),
+        Call::Chosen => chosen_cases::run_chosen(rt, bytes),
+        Call::Traced => traced_cases::run_traced(rt, bytes),
+        Call::Hull => hull_cases::run_hull(rt, bytes),
+        Call::Stretch => stretch_cases::run_stretch(rt, bytes),
+        Call::Append => list_cases::run_append(rt, bytes),
+        Call::Run => run_cases::run_allowed(rt, bytes),
+        Call::Estimate => estimate_cases::estimate_listed(rt, bytes),
+        Call::Sheet => run_sheet(rt, bytes),
+        Call::Part => run_part(rt, bytes),
+        Call::Reader => run_reader(rt, bytes),
+        Call::Writer => run_writer(rt, bytes),
     }
 }
 
-// Runs the next case, and answers whether there was one.
-fn run_next() -> bool {
+// A proved loop has to end, and nothing says that the input does: so the cases are counted. A letter that stands for no call is passed over.
+fn main(rt: HostRuntime) -> io::Result<()> {
+    let mut input = rt.reader();
     let mut buffer = [0u8; 65548];
-    let case = cases::read_case(&mut buffer);
-    let n = case.length;
-    if 65548 < n {
-        return false;
+    for _ in 0..u64::MAX {
+        let Some(case) = cases::read_case(&mut input, &mut buffer) else {
+            return Ok(());
+        };
+        if let Some(call) = case.call {
+            run_case(&rt, call, case.bytes)?;
+        }
     }
-    run_case(case.call, &buffer[..n]);
-    true
-}
-
-// A proved loop has to end, and nothing says that the input does: so the turns are counted down.
-fn main() {
-    let mut turns = u64::MAX;
-    while turns > 0 && run_next() {
-        turns -= 1;
-    }
+    Ok(())
 }

@@ -1,6 +1,6 @@
 -- The bytes read so far lie within the buffer, whose length stays.
 use Rattle.std.proofs.Common.{length, ◌-◌, ◌≡◌, ◌≤◌}
-use Rattle.reading.proofs.read_all.Given as goal
+use Rattle.reading.proofs.fill.Given as goal
 
 abbrev pub invariant-loop-done : goal.invariant-loop-done
 invariant-loop-done g l = (l.done ≤ length l.buf) × (length l.buf ≡ length l.initial.buf)
