@@ -38,7 +38,7 @@ use Rattle.geometry.proofs.PointLists.{length-flat}
 use Rattle.description.specs.Description.{named, load_of, list_after}
 use Rattle.description.proofs.Loading.{after_given}
 use Rattle.description.proofs.AcceptedTexts.{accepted_count}
-use Rattle.directory.specs.Directory.{Place}
+use Rattle.directory.specs.declared.Place.{Place}
 use Rattle.sheet.specs.Sheet.{glyph_of, part_of}
 use Rattle.sheet.proofs.Parts.{given_pair, given_within, given_part}
 use Rattle.belonging.specs.Belonging.{Belong}

@@ -28,7 +28,7 @@ use Rattle.disks.proofs.Welzl.{smallest}
 use Rattle.engine.specs.Engine.{enclosure}
 use Rattle.belonging.specs.Belonging.{Belong}
 use Rattle.belonging.proofs.Meaning.{none_smallest}
-use Rattle.belonging.proofs.Known.{tested-one, tested-two, tested-three}
+use Rattle.belonging.proofs.Known.{tested_one, tested_two, tested_three}
 use Rattle.belonging.proofs.Answers.{own_first, only_support, own_answer, own_support}
 use Rattle.disk_checks.specs.Checks.{check_of}
 use Rattle.record_writer.specs.Layout.{record_length}
@@ -103,9 +103,9 @@ fitting_points = record {
   another_or_none = left_out;
   none = λ d. none_smallest;
   one_disk = λ d c ps b k. smallest_same (same_refl ps) (same_refl []) b.own k.own;
-  one = λ d a r. tested-one d a (recordable_valid em d (a ∷ []) r);
-  two = λ d a b r. tested-two d a b (recordable_valid em d (a ∷ b ∷ []) r);
-  three = λ d a b c r. tested-three d a b c (recordable_valid em d (a ∷ b ∷ c ∷ []) r);
+  one = λ d a r. tested_one d a (recordable_valid em d (a ∷ []) r);
+  two = λ d a b r. tested_two d a b (recordable_valid em d (a ∷ b ∷ []) r);
+  three = λ d a b c r. tested_three d a b c (recordable_valid em d (a ∷ b ∷ c ∷ []) r);
   fails = fails;
   engine = λ l e h. (checked_rules e.disk e.support (checked_enclosure l e h)).1;
   letter = letter;

@@ -19,7 +19,8 @@ use Rattle.lines.specs.Line.{Line, blank, point, fault}
 use Rattle.description.specs.Description.{by_line, lines_read, load_of, room}
 use Rattle.description.proofs.AcceptedTexts.{room_long}
 use Rattle.description.proofs.Loading.{load_judged}
-use Rattle.directory.specs.Directory.{Place, count, pair, count_of}
+use Rattle.directory.specs.declared.Place.{Place}
+use Rattle.directory.specs.Directory.{count, pair, count_of}
 use Rattle.directory.proofs.Rows.{count_known}
 use Rattle.sheet.specs.Sheet.{glyph_of, pick_list, part_of, part_at}
 use Rattle.sheet.proofs.Parts.{given_pair, glyph_given}
