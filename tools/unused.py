@@ -22,7 +22,8 @@ KEPT = {
 ANSWERS = ("Answers", "Invariants")
 
 IMPORT = re.compile(r"\s*(pub |ghost )?use (.*?)(?:(?:\.|::)\{(.*)\}| as ([^\s;]+))?;?$")
-SECTION = re.compile(r"\s*(module|infixl?|infixr|(pub )?mod) ")
+SECTION = re.compile(r"\s*((module|infixl?|infixr|(pub )?mod) |impl\b)")
+LISTED = re.compile(r"^((?:pub |ghost )?use [^;{]*\{)([^;]*)(\};)", re.M)
 SIGNATURE = re.compile(r"((?:pub |abbrev |unfoldable )*)(?:(?:record|data) (?=.*\bwhere$)|ruleset |(?=\S+ :(?: |$)))([^\s(){}.,;]+)")
 ITEM = re.compile(r'(pub )?(?:extern "C" )?(?:fn|struct|enum|const) (\w+)')
 
@@ -36,7 +37,11 @@ class File:
         # What an attribute names for the tactics, as using(crate::proofs::Runs::my_lemma).
         self.cited = set(re.findall(r"\w+(?:::\w+)+", path.read_text())) if self.rt else set()
         own, indents, in_header = None, [0], False
-        for number, line in enumerate(path.read_text().splitlines(), 1):
+        # An import of several lines, as one.
+        text = path.read_text()
+        if self.rt:
+            text = LISTED.sub(lambda m: m[1] + " ".join(m[2].split()).rstrip(",") + m[3] + "\n" * m[2].count("\n"), text)
+        for number, line in enumerate(text.splitlines(), 1):
             line = re.sub(r"//.*$" if self.rt else r"(^|\s)--( .*)?$", "", line).rstrip()
             if imported := IMPORT.match(line):
                 self.imports.append((number, *imported.groups()))
@@ -70,7 +75,7 @@ class File:
         if self.cited & {"::".join([crate, *other.module.split("."), name]) for crate in ("crate", other.crate)}:
             return True
         if self.rt and other.rt:
-            return self.crate == other.crate or bool(self.words[other.crate]) or any(i[2].startswith(other.crate + "::") for i in self.imports)
+            return self.crate == other.crate or bool(self.words[other.crate]) or any(f"{i[2]}::".startswith(other.crate + "::") for i in self.imports)
         paths = ((path.removeprefix("Rattle."), names) for _, _, path, names, _ in self.imports)
         return any(path == f"{other.crate}.{other.module}" and (not names or name in re.split(r",\s*", names)) for path, names in paths)
 
