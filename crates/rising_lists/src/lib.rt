@@ -28,8 +28,14 @@ fn insert_at(list: &mut [i16], n: usize, k: usize, p: Point)
     requires { (k ≤ n) × (2 * n + 2 ≤ length list.old) }
     ensures { first_points (n + 1) list.new ≡ inserted_at k p (first_points n list.old) }
 {
-    point_lists::put_point(list, n, p);
-    list[2 * k..2 * n + 2].rotate_right(2);
+    let mut held = p;
+    // By index: rotate_right takes ten times as long for a few points.
+    for i in k..n {
+        let q = geometry::point_at(list, i);
+        point_lists::put_point(list, i, held);
+        held = q;
+    }
+    point_lists::put_point(list, n, held);
 }
 
 // Puts p in its place among the first n points of the list, and returns how many there are then.
