@@ -5,17 +5,16 @@ ghost use Rattle.std.specs.Prelude.{◌≡◌};
 ghost use Rattle.answers.specs.Outcome.{outcome};
 ghost use Rattle.geometry.specs.Plane.{numbers, members};
 ghost use Rattle.geometry.specs.EmBox.{em};
-ghost use Rattle.validity.specs.Narrow.{Narrower};
+ghost use Rattle.validity.specs.Narrow.{Narrow, Narrower};
 ghost use Rattle.disk_checks.specs.Checks.{check_in, check_of};
 
 use answers::Refusal;
-use geometry::SupportedDisk;
-use validity::NarrowLimits;
+use geometry::{Limits, SupportedDisk};
 
 // Whether a record by the limits l can hold f, and then whether its points belong to its disk.
-pub fn check_in(l: NarrowLimits, f: SupportedDisk) -> Result<(), Refusal>
-    requires { Narrower l.limits em }
-    ensures { outcome result ≡ check_in l.limits (numbers f.disk) (members f.support) }
+pub fn check_in(l: Limits, f: SupportedDisk) -> Result<(), Refusal>
+    requires { Narrow l × Narrower l em }
+    ensures { outcome result ≡ check_in l (numbers f.disk) (members f.support) }
 {
     if !validity::is_valid_in(l, f) {
         return Err(Refusal::BadRecord);
@@ -30,6 +29,5 @@ pub fn check_in(l: NarrowLimits, f: SupportedDisk) -> Result<(), Refusal>
 pub fn check(f: SupportedDisk) -> Result<(), Refusal>
     ensures { outcome result ≡ check_of (numbers f.disk) (members f.support) }
 {
-    let limits = geometry::em_limits();
-    check_in(NarrowLimits { limits }, f)
+    check_in(geometry::em_limits(), f)
 }

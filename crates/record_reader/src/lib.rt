@@ -131,7 +131,7 @@ impl Record<'_> {
             return Err(Refusal::BadRecord);
         }
         let f = SupportedDisk { disk, support };
-        disk_checks::check_in(l, f)?;
+        disk_checks::check_in(l.limits, f)?;
         Ok(f)
     }
 }

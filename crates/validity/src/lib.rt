@@ -94,8 +94,9 @@ fn disk_is_valid(l: NarrowLimits, d: Disk) -> bool
 
 // Whether a record with these limits can hold f.
 #[tactic(auto, unfolding(crate::specs::Valid::valid_in))]
-pub fn is_valid_in(l: NarrowLimits, f: SupportedDisk) -> bool
-    ensures { result ≡ valid_in l.limits (numbers f.disk) (members f.support) }
+pub fn is_valid_in(l: Limits, f: SupportedDisk) -> bool
+    requires { Narrow l }
+    ensures { result ≡ valid_in l (numbers f.disk) (members f.support) }
 {
-    disk_is_valid(l, f.disk) && points_are_valid(l.limits, f.support)
+    disk_is_valid(NarrowLimits { limits: l }, f.disk) && points_are_valid(l, f.support)
 }
