@@ -1,7 +1,7 @@
 // Chains of points, each next turning strictly left, made in place in a list of numbers.
 #![tactic(auto)]
 
-ghost use Rattle.std.specs.Prelude.{◌≡◌, ◌∷◌, ℕ, ◌+◌, ◌*◌, ◌%◌, ◌≤◌, ◌<◌, pos, length, drop};
+ghost use Rattle.std.specs.Prelude.{◌≡◌, ◌∷◌, ℕ, ◌+◌, ◌*◌, ◌≤◌, ◌<◌, pos, length, drop};
 ghost use Rattle.std.specs.Int.Signed.{lt_z};
 ghost use Rattle.geometry.specs.Points.{points, point_at};
 ghost use Rattle.hull.specs.Hull.{cross};
@@ -56,11 +56,11 @@ fn is_needed(chain: &[i16], a: Point, p: Point) -> bool
     turns_left(a, p, geometry::point_at(chain, 0))
 }
 
-// Makes the points of the list their chain, which ends where they end, and returns it.
-pub fn chain(list: &mut [i16]) -> &[i16]
+// Makes the points of the list their chain, which ends where they end; returns from where on they are it.
+pub fn chain(list: &mut [i16]) -> usize
     requires { 2 ≤ length list.old }
-    ensures points { points result.now ≡ skim_chain (points list.old) }
-    ensures parity { length result.now % 2 ≡ length list.old % 2 }
+    ensures room { 2 * (result + 1) ≤ length list.old }
+    ensures left { drop result (points list.new) ≡ skim_chain (points list.old) }
 {
     let n = list.len() / 2;
     let a = geometry::point_at(list, 0);
@@ -72,6 +72,5 @@ pub fn chain(list: &mut [i16]) -> &[i16]
             m = push(list, m, p);
         }
     }
-    m = push(list, m, a);
-    &list[2 * m..]
+    push(list, m, a)
 }

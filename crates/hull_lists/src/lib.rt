@@ -1,9 +1,10 @@
 // The convex hull of a list of points, put in the list's place.
 #![tactic(auto)]
 
-ghost use Rattle.std.specs.Prelude.{◌≡◌, ℕ, ◌+◌, ◌-◌, ◌*◌, ◌≤◌, ◌<◌, length};
+ghost use Rattle.std.specs.Prelude.{◌≡◌, ℕ, ◌+◌, ◌-◌, ◌*◌, ◌%◌, ◌≤◌, ◌<◌, length};
 ghost use Rattle.geometry.specs.Points.{points};
 ghost use Rattle.hull.specs.Chains as Chains;
+ghost use Rattle.hull.specs.Skimmed.{skim_chain};
 ghost use Rattle.hull_chains.specs.Spans.{span};
 ghost use Rattle.columns.specs.Columns.{Columns, Seen, column_count, side_length};
 ghost use Rattle.joined_chains.specs.Laid.{laid};
@@ -25,6 +26,16 @@ fn close(list: &mut [i16], n: usize, p: Point) -> usize
     n + 1
 }
 
+// Makes the points of the list their chain and returns it.
+fn chain_of(list: &mut [i16]) -> &[i16]
+    requires { 2 ≤ length list.old }
+    ensures points { points result.now ≡ skim_chain (points list.old) }
+    ensures parity { length result.now % 2 ≡ length list.old % 2 }
+{
+    let k = hull_chains::chain(list);
+    &list[2 * k..]
+}
+
 // The hull of a list, from its m lowest points and its m highest ones, put in front of the list, and zeros behind; returns how many corners it has.
 fn lay(lows: &mut [i16], highs: &mut [i16], m: usize, list: &mut [i16]) -> usize
     requires le_m { (1 ≤ m) × (m ≤ column_count) × (length lows.old ≡ side_length) × (length highs.old ≡ side_length) }
@@ -37,8 +48,8 @@ fn lay(lows: &mut [i16], highs: &mut [i16], m: usize, list: &mut [i16]) -> usize
     let z = geometry::point_at(highs, first);
     let n = close(lows, m, z);
     let v = close(highs, columns::COLUMNS, a);
-    let lower = hull_chains::chain(&mut lows[..2 * n]);
-    let upper = hull_chains::chain(&mut highs[2 * first..2 * v]);
+    let lower = chain_of(&mut lows[..2 * n]);
+    let upper = chain_of(&mut highs[2 * first..2 * v]);
     joined_chains::join(lower, upper, list)
 }
 

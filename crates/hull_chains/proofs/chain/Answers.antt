@@ -1,8 +1,8 @@
 use mathlib.Core.Path.{◌≡◌, refl, sym, ap, ◌∙◌}
 use mathlib.Core.List.{List, ◌∷◌}
-use Prim.Native.Nat.{ℕ, ◌+◌, ◌-◌, ◌*◌, ◌/◌}
+use Prim.Native.Nat.{ℕ, ◌+◌, ◌-◌, ◌/◌}
 use native.Mathlib.Omega.{arith}
-use lib.ListN.{drop, length, length-drop, length-take}
+use lib.ListN.{drop, length}
 use Rattle.geometry.specs.declared.Point.{Point}
 use Rattle.geometry.specs.Points.{points}
 use Rattle.geometry.proofs.PointRows.{points_end}
@@ -80,21 +80,13 @@ loop-i-preserved c =
       ),
     )
 
-pub returns-clause-parity : goal.returns-clause-parity
-returns-clause-parity c =
-    let l = c.push-m-2.new.list in
-    let k = c.push-m-2.result in
-    let size = length-take (length l - 2 * k) (drop (2 * k) l) in
-    omega (arith, size, length-drop (2 * k) l, c.push-m-2.auto.list, c.push-m-2.ensures.room.1, c.loop-i.invariant.3)
-
-pub returns-clause-points : goal.returns-clause-points
+pub returns-clause-left : goal.returns-clause-left
 unfolding Chains.chain skim_chain
-returns-clause-points c =
+returns-clause-left c =
     let l = c.args.list.now in
     let a = c.point_at-a.result in
     let v = c.loop-i.invariant in
     let all : c.loop-i.i ≡ 1 = omega (arith, c.loop-i-test.false, v.0) in
     let whole : points l ≡ a ∷ drop 1 (points l) = points_from_back 0 l a c.requires c.point_at-a.ensures in
-    points_tail c.push-m-2.result c.push-m-2.new.list
-    ∙ c.push-m-2.ensures.left ∙ ap (Chains.push a) (v.4.1 ∙ ap (λ (k : ℕ). Chains.chain (skimmed a (drop k (points l)))) all)
+    c.push.ensures.left ∙ ap (Chains.push a) (v.4.1 ∙ ap (λ (k : ℕ). Chains.chain (skimmed a (drop k (points l)))) all)
     ∙ sym (ap skim_chain whole)
