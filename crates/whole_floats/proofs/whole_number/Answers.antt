@@ -58,5 +58,5 @@ pub returns : goal.returns
 unfolding of_bits neg
 returns c =
     ap whole_or_11 c.then_some-2.ensures
-    ∙ answer-beyond c.args.v (passes _ c.well_formed.0.1) c.is_finite.result c.is_finite.ensures.value
+    ∙ answer-beyond c.args.v (passes _ c.well_formed.0.1) c.is_finite.result c.is_finite.ensures
     (elim c.else-v.branch [ else-v-via-then-v+else-v-2 w ↦ inr w.if-v-2.false | else-v-via-else-v w ↦ inl w.if-v.false ])
