@@ -3,7 +3,6 @@
 --   two-suc                 : 2(n + 1) as two more than 2n
 --   two_dropped             : two numbers of a list, and those behind them
 --   points_none, points_next : a list of fewer than two numbers has no point; any other has its first, and those of the rest
---   length_points           : a list has two numbers, or more, for each of its points
 --   length-flat             : the numbers of n points are 2n
 --   flat_append             : the numbers of two lists of points, one after the other
 --   first_points-flat        : of those numbers with more behind, the first points are ps
@@ -48,13 +47,6 @@ unfolding points
 points_next [] h = absurd (omega arith)
 points_next (x ∷ []) h = absurd (omega arith)
 points_next (x ∷ y ∷ l) h = refl
-
--- so what counts points fits a word
-pub length_points : (l : List ℤ) → 2 * length (points l) ≤ length l
-unfolding points
-length_points [] = omega arith
-length_points (x ∷ []) = omega arith
-length_points (x ∷ y ∷ l) = omega (arith, length_points l)
 
 -- ---- points as numbers
 

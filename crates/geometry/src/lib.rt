@@ -146,12 +146,19 @@ pub fn in_em_box(p: Point) -> bool
     integers::is_between(LEFT, wide(p.x), RIGHT) && integers::is_between(FOOT, wide(p.y), TOP)
 }
 
-// Whether p comes before q in rising order.
+// Whether p comes before q in rising order. One test after the other: with the derived `<`, which says the same, or with these tests in one expression,
+// the compiler makes no branch of the first, and lists with many points on one circle took 1.4 to 1.6 times as long.
 #[tactic(auto, unfolding(crate::specs::Order::before))]
 pub fn is_before(p: Point, q: Point) -> bool
     ensures { result ≡ before p q }
 {
-    p < q
+    if p.x < q.x {
+        return true;
+    }
+    if q.x < p.x {
+        return false;
+    }
+    p.y < q.y
 }
 
 // Point i of a list of numbers, x and y by turns.

@@ -10,14 +10,19 @@ ghost use Rattle.rising_lists.specs.Place.{place_of, inserted_at};
 use geometry::Point;
 
 // The place of p among the first n points of the list, where it is not one of them.
-#[tactic(auto, using(geometry::proofs::PointLists::length_points, point_lists::proofs::Order::behind_not_before), unfolding(crate::specs::Place::place_of))]
 fn find_place(list: &[i16], n: usize, p: Point) -> Option<usize>
     requires { 2 * n ≤ length list.now }
     ensures { result ≡ place_of p (first_points n list.now) 0 }
 {
-    for (k, q) in geometry::points(&list[..2 * n]).enumerate() {
+    // By index and test by test: with an iterator, the derived order and `then_some` lists with many points on one circle, or many equal ones,
+    // took 1.3 to 1.5 times as long.
+    for k in 0..n {
+        let q = geometry::point_at(list, k);
         if !geometry::is_before(q, p) {
-            return geometry::is_before(p, q).then_some(k);
+            if geometry::is_before(p, q) {
+                return Some(k);
+            }
+            return None;
         }
     }
     Some(n)
