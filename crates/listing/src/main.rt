@@ -6,7 +6,8 @@ use std::io;
 fn main(rt: HostRuntime) -> io::Result<()> {
     let mut text = [0u8; 65536];
     match reading::read_all(&rt, &mut text) {
-        Ok(n) => report::print_description(&rt, &text[..n]),
+        // Output that cannot be written is passed over.
+        Ok(n) => report::print_description(&rt, &text[..n]).or(Ok(())),
         Err(error) => eprintln!(rt; "standard input: {error}"),
     }
 }

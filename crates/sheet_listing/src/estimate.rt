@@ -11,15 +11,14 @@ fn print_glyph(rt: &impl Print, k: usize, points: u16, refusal: u16) -> io::Resu
     }
 }
 
-// The lines of the glyphs of a sheet that is not refused.
-fn print_glyphs(rt: &impl Print, sheet: &[u8], points: &[u16], refusals: &[u16]) -> io::Result<()> {
+// The lines of the glyphs of a sheet that is not refused. One that cannot be written is passed over.
+fn print_glyphs(rt: &impl Print, sheet: &[u8], points: &[u16], refusals: &[u16]) {
     let Ok(count) = directory::count_glyphs(sheet) else {
-        return Ok(());
+        return;
     };
     for (k, (points, refusal)) in points.iter().zip(refusals).take(count).enumerate() {
-        print_glyph(rt, k, *points, *refusal)?;
+        let _ = print_glyph(rt, k, *points, *refusal);
     }
-    Ok(())
 }
 
 fn estimate(
@@ -30,7 +29,7 @@ fn estimate(
 ) -> io::Result<()> {
     match sheet_estimate::estimate_sheet(sheet, points, refusals) {
         Ok(estimate) => {
-            print_glyphs(rt, sheet, points, refusals)?;
+            print_glyphs(rt, sheet, points, refusals);
             println!(rt; "bytes {} tests {}", estimate.bytes, estimate.tests)
         }
         Err(refusal) => println!(rt; "{refusal}"),

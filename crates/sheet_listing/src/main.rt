@@ -15,10 +15,12 @@ fn list(rt: &(impl io::Input + Print + Eprint), wanted: Wanted) -> io::Result<()
         Ok(n) => n,
         Err(error) => return eprintln!(rt; "standard input: {error}"),
     };
-    match wanted {
+    let printed = match wanted {
         Wanted::Run(tests) => run::print_sheet(rt, &sheet[..n], tests),
         Wanted::Estimate => estimate::print_sheet(rt, &sheet[..n]),
-    }
+    };
+    // Output that cannot be written is passed over.
+    printed.or(Ok(()))
 }
 
 fn main(rt: HostRuntime) -> io::Result<()> {

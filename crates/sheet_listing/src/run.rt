@@ -16,25 +16,23 @@ fn print_glyph(rt: &impl Print, k: usize, text: &[u8], number: u16) -> io::Resul
     }
 }
 
-// The lines of the glyphs, a number each.
-fn print_glyphs(rt: &impl Print, sheet: &[u8], numbers: &[u16]) -> io::Result<()>
+// The lines of the glyphs, a number each. One that cannot be written is passed over.
+fn print_glyphs(rt: &impl Print, sheet: &[u8], numbers: &[u16])
     requires { (length numbers.now ≤ 65535) × (2 + 4 * length numbers.now ≤ length sheet.now) }
 {
     for (k, number) in numbers.iter().enumerate() {
-        print_glyph(rt, k, sheet::part_at(sheet, k), *number)?;
+        let _ = print_glyph(rt, k, sheet::part_at(sheet, k), *number);
     }
-    Ok(())
 }
 
 // The lines of the glyphs of a sheet that was run.
 #[tactic(auto, using(directory::proofs::Rows::count_known))]
-fn print_run(rt: &impl Print, sheet: &[u8], numbers: &[u16]) -> io::Result<()> {
+fn print_run(rt: &impl Print, sheet: &[u8], numbers: &[u16]) {
     if let Ok(count) = directory::count_glyphs(sheet)
         && let Some(listed) = numbers.get(..count)
     {
-        print_glyphs(rt, sheet, listed)?;
+        print_glyphs(rt, sheet, listed);
     }
-    Ok(())
 }
 
 fn run(
@@ -46,7 +44,7 @@ fn run(
 ) -> io::Result<()> {
     match sheet_run::run_sheet(sheet, allowance, buffer, numbers) {
         Ok(ran) => {
-            print_run(rt, sheet, numbers)?;
+            print_run(rt, sheet, numbers);
             println!(rt; "worked {} left {}", ran.worked, ran.left)
         }
         Err(refusal) => println!(rt; "{refusal}"),

@@ -133,7 +133,8 @@ fn main(rt: HostRuntime) -> io::Result<()> {
             return Ok(());
         };
         if let Some(call) = case.call {
-            run_case(&rt, call, case.bytes)?;
+            // Output that cannot be written is passed over.
+            let _ = run_case(&rt, call, case.bytes);
         }
     }
     Ok(())
