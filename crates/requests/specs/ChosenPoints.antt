@@ -1,6 +1,6 @@
 -- Document 02, item 6: the smallest disk with one or two chosen points on its boundary, over the definition that the contract of
 -- `smallest_disk_through` of the crate `chosen_points` cites. The refusals are claimed with the other calls' too (claims/specs/Demand1.antt). That the list
--- is left unchanged is in the contract. Shown in proofs/ChosenPoints.antt.
+-- is left unchanged is said by its type, `&[i16]`. Shown in proofs/ChosenPoints.antt.
 --
 --   Accepts l c    == the list l breaks no rule of the engine, and the chosen points are in it
 --   ChosenPoints   == all that item 6 says

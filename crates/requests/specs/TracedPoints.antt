@@ -1,6 +1,6 @@
 -- Document 02, item 7: the smallest disk that holds a hand-traced letter, over the definition that the contract of `smallest_disk_of_traced` of the crate
 -- `traced_points` cites. Which refusal is due, and in which order, is claimed with the other calls' (claims/specs/Demand1.antt, by `traced_row`). That the
--- list is left unchanged is in the contract. Shown in proofs/TracedPoints.antt.
+-- list is left unchanged is said by its type, `&[i16]`. Shown in proofs/TracedPoints.antt.
 --
 --   TracedPoints   == all that item 7 says
 --

@@ -1,6 +1,6 @@
 -- Document 02, item 11: the widest stretch of a letter, over the definition that the contract of `widest_stretch` of the crate of this name cites. Which
 -- refusal is due, and in which order, is claimed with the other calls' (claims/specs/Demand1.antt, by `engine_row`). That "the list is left as it was" is
--- in the contract. Shown in proofs/WidestStretch.antt.
+-- said by the list's type, `&[i16]`. Shown in proofs/WidestStretch.antt.
 --
 --   WidestStretch   == all that item 11 says
 --
